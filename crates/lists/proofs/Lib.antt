@@ -1,0 +1,10 @@
+pub mod Truth
+pub mod Lists
+pub mod Runs
+pub mod Blocks
+pub mod Parts
+pub mod Firsts
+pub mod Foremost
+pub mod Stores
+pub mod Bits
+pub mod Decimal

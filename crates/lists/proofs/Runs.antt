@@ -1,0 +1,76 @@
+-- `all`, `any` and `sumOf` over a run of numbers s .. s + n - 1. A sum whose terms are 0 but at one number is that term: this carries every side's argument.
+use mathlib.Core.Path.{_≡_, refl, sym, ap, ap₂, _∙_, subst}
+use mathlib.Core.Logic.{_≢_}
+use Prim.Native.Nat.{ℕ, zero, suc, _+_, _≤_, _<_}
+use native.Mathlib.Nat.{zero-add, add-zero}
+use native.Mathlib.Omega.{arith}
+use mathlib.Core.Bool.{Bool, true, false, not, _&&_, _||_, and-true}
+use mathlib.Core.List.{List, [], _∷_, _++_, flatMap, append-nil}
+use lib.Dec.{T}
+use Rattle.lists.specs.Lists.{count, all, any, sumOf}
+use Rattle.lists.proofs.Truth.{and-left, and-right, both, test, clash, same}
+use Rattle.lists.proofs.Lists.{all-append, sum-append, flat-append}
+
+-- a test passes on the whole run: at each number of it, and the other way round
+pub all-at : (f : ℕ → Bool) (s n : ℕ) → all f (count s n) ≡ true → (j : ℕ) → s ≤ j → j < s + n → f j ≡ true
+all-at f s zero e j l h = absurd (omega arith)
+all-at f s (suc n) e j l h =
+    same s j (λ q. rw (← q) (and-left (f s) (all f (count (suc s) n)) e))
+    (λ q. all-at f (suc s) n (and-right (f s) (all f (count (suc s) n)) e) j (omega arith) (omega arith))
+
+pub at-all : (f : ℕ → Bool) (s n : ℕ) → ((j : ℕ) → s ≤ j → j < s + n → f j ≡ true) → all f (count s n) ≡ true
+at-all f s zero g = refl
+at-all f s (suc n) g = both (g s (omega arith) (omega arith)) (at-all f (suc s) n (λ j l h. g j (omega arith) (omega arith)))
+
+-- a test passes somewhere on the run
+pub any-at : (f : ℕ → Bool) (s n : ℕ) → any f (count s n) ≡ true → (j : ℕ) × (s ≤ j) × (j < s + n) × (f j ≡ true)
+any-at f s zero e = absurd (subst (λ (t : Bool). T (not t)) e tt)
+any-at f s (suc n) e =
+    test (f s) (λ p. (s, omega arith, omega arith, p))
+    (λ p. let (j, l, h, q) = any-at f (suc s) n (rw p at e) in (j, omega arith, omega arith, q))
+
+pub at-any : (f : ℕ → Bool) (s n j : ℕ) → s ≤ j → j < s + n → f j ≡ true → any f (count s n) ≡ true
+at-any f s zero j l h e = absurd (omega arith)
+at-any f s (suc n) j l h e =
+    test (f s) (λ p. rw p)
+    (λ p. rw p (at-any f (suc s) n j (same s j (λ q. clash e (rw q at p)) (λ q. omega arith)) (omega arith) e))
+
+-- it passes nowhere on the run
+pub none-any : (f : ℕ → Bool) (s n : ℕ) → ((j : ℕ) → s ≤ j → j < s + n → f j ≡ false) → any f (count s n) ≡ false
+none-any f s zero g = refl
+none-any f s (suc n) g = ap₂ _||_ (g s (omega arith) (omega arith)) (none-any f (suc s) n (λ j l h. g j (omega arith) (omega arith)))
+
+pub sum-none : (f : ℕ → ℕ) (s n : ℕ) → ((j : ℕ) → s ≤ j → j < s + n → f j ≡ 0) → sumOf f (count s n) ≡ 0
+sum-none f s zero g = refl
+sum-none f s (suc n) g = ap₂ _+_ (g s (omega arith) (omega arith)) (sum-none f (suc s) n (λ j l h. g j (omega arith) (omega arith)))
+
+-- all terms of a sum but one are 0
+pub sum-only : (f : ℕ → ℕ) (s n a : ℕ) → s ≤ a → a < s + n → ((j : ℕ) → s ≤ j → j < s + n → j ≢ a → f j ≡ 0) → sumOf f (count s n) ≡ f a
+sum-only f s zero a l h g = absurd (omega arith)
+sum-only f s (suc n) a l h g =
+    same s a
+    (λ q. rw q (ap (λ (k : ℕ). f a + k) (sum-none f (suc a) n (λ j u v. g j (omega arith) (omega arith) (λ z. omega arith))) ∙ add-zero (f a)))
+    (λ q. ap₂ _+_ (g s (omega arith) (omega arith) q) (sum-only f (suc s) n a (omega arith) (omega arith) (λ j u v. g j (omega arith) (omega arith))) ∙ zero-add (f a))
+
+-- a test fails on the run but at one number
+pub any-only : (f : ℕ → Bool) (s n b : ℕ) → s ≤ b → b < s + n → ((j : ℕ) → s ≤ j → j < s + n → j ≢ b → f j ≡ false) → any f (count s n) ≡ f b
+any-only f s n b l h g =
+    test (f b) (λ p. at-any f s n b l h p ∙ sym p)
+    (λ p. none-any f s n (λ j u v. same j b (λ q. rw q p) (λ q. g j u v q)) ∙ sym p)
+
+-- ---- a run that grows at its end, as a loop goes through it
+
+pub count-snoc : (s n : ℕ) → count s (suc n) ≡ count s n ++ ((s + n) ∷ [])
+count-snoc s zero = ap (λ (k : ℕ). k ∷ []) (sym (add-zero s))
+count-snoc s (suc n) = let z : suc s + n ≡ s + suc n = omega arith in ap (λ (l : List ℕ). s ∷ l) (count-snoc (suc s) n ∙ ap (λ (k : ℕ). count (suc s) n ++ (k ∷ [])) z)
+
+pub flat-snoc : {B : Type 0} (g : ℕ → List B) (s n : ℕ) → flatMap g (count s (suc n)) ≡ flatMap g (count s n) ++ g (s + n)
+unfolding flatMap
+flat-snoc g s n =
+    ap (flatMap g) (count-snoc s n) ∙ flat-append g (count s n) ((s + n) ∷ []) ∙ ap (λ (m : List _). flatMap g (count s n) ++ m) (append-nil (g (s + n)))
+
+pub sum-snoc : (f : ℕ → ℕ) (s n : ℕ) → sumOf f (count s (suc n)) ≡ sumOf f (count s n) + f (s + n)
+sum-snoc f s n = ap (sumOf f) (count-snoc s n) ∙ sum-append f (count s n) ((s + n) ∷ []) ∙ ap (λ (k : ℕ). sumOf f (count s n) + k) (add-zero (f (s + n)))
+
+pub all-snoc : (f : ℕ → Bool) (s n : ℕ) → all f (count s (suc n)) ≡ (all f (count s n) && f (s + n))
+all-snoc f s n = ap (all f) (count-snoc s n) ∙ all-append f (count s n) ((s + n) ∷ []) ∙ ap (λ (o : Bool). all f (count s n) && o) (and-true (f (s + n)))

@@ -1,0 +1,54 @@
+-- A run of stores: what is stored in two goes is stored as one, and what a loop still owes.
+use mathlib.Core.Path.{_≡_, refl, sym, ap, _∙_}
+use mathlib.Core.List.{List, [], _∷_, _++_}
+use Prim.Native.Nat.{ℕ, suc, _+_, _≤_}
+use native.Mathlib.Nat.{add-zero, add-suc, suc-add}
+use native.Mathlib.Omega.{arith}
+use lib.ListN.{length, set, length-append}
+use lib.Seq.{sets, set-out, length-sets}
+use Rattle.lists.specs.Stores.{Wrote, Owes}
+
+module _ {A : Type 0} where
+  pub sets-append : (vs ws l : List A) (i : ℕ) → sets l i (vs ++ ws) ≡ sets (sets l i vs) (i + length vs) ws
+  sets-append [] ws l i = rw add-zero
+  sets-append (a ∷ vs) ws l i = sets-append vs ws _ (suc i) ∙ rw (suc-add, add-suc)
+
+  pub wrote-none : (l : List A) (at : ℕ) → Wrote l at [] at l
+  wrote-none l at = record { next = sym (add-zero at); list = refl }
+
+  -- one entry within the slice, and one past it
+  pub wrote-in : (l : List A) (at : ℕ) (v : A) → Wrote l at (v ∷ []) (at + 1) (set l at v)
+  wrote-in l at v = record { next = refl; list = refl }
+
+  pub wrote-out : (l : List A) (at : ℕ) (v : A) → length l ≤ at → Wrote l at (v ∷ []) (at + 1) l
+  wrote-out l at v h = record { next = refl; list = sym (set-out l at v h) }
+
+  pub wrote-append : {vs ws a b c : List A} {at r s : ℕ} → Wrote a at vs r b → Wrote b r ws s c → Wrote a at (vs ++ ws) s c
+  wrote-append {vs} {ws} {a} {b} {c} {at} p q =
+      record {
+        next = omega (arith, p .next, q .next, length-append vs ws);
+        list = q .list ∙ rw (p .list, p .next) (sym (sets-append vs ws a at));
+      }
+
+  -- stores leave the slice as long as it was
+  pub wrote-long : {old vs new : List A} {at r : ℕ} → Wrote old at vs r new → length new ≡ length old
+  wrote-long {old} {vs} {new} {at} w = ap length (w .list) ∙ length-sets old at vs
+
+  -- ---- a loop of stores
+
+  pub owes-all : {l : List A} {at : ℕ} {vs : List A} → Owes l at vs l at vs
+  owes-all = record { same = refl; ends = refl; long = refl }
+
+  -- a turn: of what is owed vs is stored, and ws stays
+  pub owes-part : {old all out new rest vs ws : List A} {start at r : ℕ}
+      → Owes old start all out at rest → rest ≡ vs ++ ws → Wrote out at vs r new → Owes old start all new r ws
+  owes-part {out = out} {vs = vs} {ws = ws} {at = at} o e w =
+      record {
+        same = rw (w .list, w .next) (sym (sets-append vs ws out at) ∙ ap (sets out at) (sym e) ∙ o .same);
+        ends = omega (arith, w .next, o .ends, ap length e, length-append vs ws);
+        long = wrote-long w ∙ o .long;
+      }
+
+  pub owes-none : {old all out rest : List A} {start at : ℕ} → Owes old start all out at rest → rest ≡ [] → Wrote old start all at out
+  owes-none {out = out} {at = at} o e =
+      record { next = omega (arith, o .ends, ap length e); list = ap (sets out at) (sym e) ∙ o .same }
