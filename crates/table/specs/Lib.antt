@@ -1,0 +1,5 @@
+pub mod Refusals
+pub mod Table
+pub mod Words
+pub mod Faults
+pub mod Answers
