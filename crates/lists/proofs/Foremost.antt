@@ -36,3 +36,11 @@ module _ {A : Type 0} where
     first-run zero a z e = nothing (λ i l h. absurd (omega arith))
     first-run {g} (suc n) a z e =
         first-then (first-one (g a) refl (e a (omega arith) (omega arith))) (first-run n (a + 1) (omega arith) (λ i l. e i (omega arith)))
+
+-- what stands at an index with nothing before it is what is found first
+pub first-is : {A : Type 0} {f : ℕ → Option A} {b i : ℕ} {o : Option A} {r : A} → First f 0 b o → i < b → f i ≡ some r → Clear f 0 i → o ≡ some r
+first-is {i} (nothing p) h e q = cc (p i (omega arith) h)
+first-is {i} (something j g p) h e q =
+    order i j
+    (λ u. order j i (λ v. let z : i ≡ j = omega arith in cc) (λ v. cc (p i (omega arith) v)))
+    (λ u. cc (q j (omega arith) u))

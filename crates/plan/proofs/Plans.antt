@@ -12,8 +12,8 @@ use mathlib.Core.Bool.{Bool, true, false, not, cond}
 use Rattle.lists.specs.Lists.{nth, sumOf}
 use Rattle.lists.specs.Firsts.{unless, firstOf}
 use Rattle.lists.proofs.Firsts.{unless-none, then-none, none-then, first-each, each-first}
-use Rattle.table.specs.declared.Refusal.{Refusal}
-use Rattle.table.specs.declared.Refusal.the-variants.{Length, Entry}
+use Rattle.refusal.specs.declared.Refusal.{Refusal}
+use Rattle.refusal.specs.declared.Refusal.the-variants.{Length, Entry}
 use Rattle.table.specs.declared.Counts.{Counts}
 use Rattle.table.specs.Table.{Table, boxes, size, allowed, In}
 use Rattle.table.specs.Words.{boxCount, pairCount, sizeAt, pairAt, pairNext, pairsAt, tableOf, Accepted, PairStands}
@@ -33,7 +33,7 @@ pub judged-wrong : (o : Option Refusal) {f : Refusal} → judgedOf o ≡ Judged.
 judged-wrong none e = cc
 judged-wrong (some g) e = cc
 
-value-none : (t : Table) (plan : List ℕ) (i : ℕ) → valueFault t plan i ≡ none → In 1 (size t (i + 1)) (getD plan i 0)
+pub value-none : (t : Table) (plan : List ℕ) (i : ℕ) → valueFault t plan i ≡ none → In 1 (size t (i + 1)) (getD plan i 0)
 unfolding valueFault
 value-none t plan i e =
     let p = then-none (unless (leb 1 (getD plan i 0)) (Entry i)) _ e in
@@ -131,8 +131,8 @@ charge-by ws plan at o e = rw (← e) (flip o)
     flip true = refl
     flip false = refl
 
-pub charged-by : (ws plan : List ℕ) (at : ℕ) (pair : PairHead) (a b : ℕ) (o : Bool) → pair ≡ headAt ws at → a ≡ nth plan (pair .first) → b ≡ nth plan (pair .second)
-    → o ≡ allowed (pairAt ws at) a b → charge plan (pairAt ws at) ≡ cond o 0 (pair .weight)
+pub charged-by : (ws plan : List ℕ) (at : ℕ) (pair : PairHead) (a b : ℕ) (o : Bool)
+    → pair ≡ headAt ws at → a ≡ nth plan (pair .first) → b ≡ nth plan (pair .second) → o ≡ allowed (pairAt ws at) a b → charge plan (pairAt ws at) ≡ cond o 0 (pair .weight)
 charged-by ws plan at pair a b o e p q r =
     let first = p ∙ ap (λ (h : PairHead). nth plan (h .first)) e in
     let second = q ∙ ap (λ (h : PairHead). nth plan (h .second)) e in

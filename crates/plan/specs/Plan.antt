@@ -1,5 +1,5 @@
 -- A plan gives each box a value. What it costs, and what is wrong with it first.
-use Prim.Native.Nat.{ℕ, _+_, _≤_}
+use Prim.Native.Nat.{ℕ, _+_, _≤_, _<_}
 use mathlib.Core.Path.{_≡_}
 use mathlib.Core.Bool.{Bool, not, cond}
 use mathlib.Core.Option.{Option, none, some}
@@ -8,9 +8,9 @@ use lib.ListN.{length, getD}
 use lib.Dec.{leb, eqb}
 use Rattle.lists.specs.Firsts.{_then_, unless, firstOf}
 use Rattle.lists.specs.Lists.{nth, sumOf}
-use Rattle.table.specs.declared.Refusal.{Refusal}
-use Rattle.table.specs.declared.Refusal.the-variants.{Length, Entry}
-use Rattle.table.specs.Refusals.{Says, gives, refusalSays}
+use Rattle.refusal.specs.declared.Refusal.{Refusal}
+use Rattle.refusal.specs.declared.Refusal.the-variants.{Length, Entry}
+use Rattle.refusal.specs.Refusals.{Says, gives, refusalSays}
 use Rattle.table.specs.Table.{Pair, Table, boxes, size, allowed, In}
 use Rattle.table.specs.Words.{Outcome, refused, accepted}
 use Rattle.plan.specs.declared.Judged.{Judged}
@@ -19,6 +19,12 @@ use Rattle.plan.specs.declared.Costed.{Costed}
 pub record IsPlan (t : Table) (plan : List ℕ) : Type 0 where
   pub long : length plan ≡ boxes t
   pub within : (b : ℕ) → 1 ≤ b → b ≤ boxes t → In 1 (size t b) (nth plan b)
+
+-- i is the lowest index of a value outside its box's domain; the box at index i is box i + 1
+pub record LowestOut (t : Table) (plan : List ℕ) (i : ℕ) : Type 0 where
+  pub inside : i < boxes t
+  pub outside : In 1 (size t (i + 1)) (getD plan i 0) → ⊥
+  pub before : (j : ℕ) → j < i → In 1 (size t (j + 1)) (getD plan j 0)
 
 -- a pair is broken by a plan whose two values are not allowed together
 abbrev pub broken : List ℕ → Pair → Bool

@@ -1,8 +1,8 @@
 // The cost of a plan: the sum of the weights of the pairs that it breaks.
 use reader::PairHead;
+use refusal::Refusal;
 use table::Checked;
 use table::Counts;
-use table::Refusal;
 ghost use mathlib.Core.Path.{_≡_};
 ghost use Prim.Native.Nat.{_+_, _≤_, _<_};
 ghost use lib.ListN.{length};

@@ -5,7 +5,7 @@ use native.Mathlib.Omega.{arith}
 use mathlib.Core.Option.{Option, none, some}
 use mathlib.Core.List.{List}
 use lib.ListN.{length}
-use Rattle.table.specs.declared.Refusal.{Refusal}
+use Rattle.refusal.specs.declared.Refusal.{Refusal}
 use Rattle.table.specs.declared.Got.the-variants.{Value, Wrong}
 use Rattle.table.specs.declared.Step.the-variants.{Next, Stop}
 use Rattle.table.specs.declared.Counts.{Counts}

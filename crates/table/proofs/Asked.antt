@@ -13,9 +13,9 @@ use borrow.Author.Tests.{lt-ltb, le-ltb, le-leb, lt-leb, eqb-true, eqb-false, no
 use Rattle.lists.specs.Firsts.{_then_, unless}
 use Rattle.lists.proofs.Truth.{order}
 use Rattle.lists.proofs.Bits.{pow-small, pow-large}
-use Rattle.table.specs.declared.Refusal.{Refusal}
-use Rattle.table.specs.declared.Refusal.the-variants.{Missing, Extra, Count, Domain, Partner, Weight, Mask}
-use Rattle.table.specs.Refusals.{numberOf, placeOf}
+use Rattle.refusal.specs.declared.Refusal.{Refusal}
+use Rattle.refusal.specs.declared.Refusal.the-variants.{Missing, Extra, Count, Domain, Partner, Weight, Mask}
+use Rattle.refusal.specs.Refusals.{numberOf, placeOf}
 use Rattle.table.specs.Words.{boxCount, pairCount, sizeAt, pairNext, pairsEnd, rangeFault, maskFault, sizeFault}
 use Rattle.table.specs.Faults.{starts, pairLength, Due, count-due, size-due, pair-due, Outside, Fault, missing, extra}
 use Rattle.table.specs.Faults.{boxes-out, pairs-out, size-out, first-out, second-out, weight-out, mask-out}

@@ -10,9 +10,9 @@ use borrow.Author.Tests.{le-leb, lt-leb}
 use Rattle.lists.specs.Firsts.{_then_, unless, firstOf}
 use Rattle.lists.proofs.Truth.{order}
 use Rattle.lists.proofs.Foremost.{Clear, First, nothing, something, first-then, first-one, first-run}
-use Rattle.table.specs.declared.Refusal.{Refusal}
-use Rattle.table.specs.declared.Refusal.the-variants.{Extra}
-use Rattle.table.specs.Refusals.{numberOf, placeOf}
+use Rattle.refusal.specs.declared.Refusal.{Refusal}
+use Rattle.refusal.specs.declared.Refusal.the-variants.{Extra}
+use Rattle.refusal.specs.Refusals.{numberOf, placeOf}
 use Rattle.table.specs.Table.{Table}
 use Rattle.table.specs.Words.{boxCount, pairCount, sizeAt, pairNext, pairsEnd, tableOf, refused, accepted, settled, judged}
 use Rattle.table.specs.Words.{masksFault, partnersFault, pairFault, pairsFault, bodyFault, firstFault}

@@ -5,8 +5,8 @@ use mathlib.Core.List.{List, [], _∷_}
 use Prim.Native.Nat.{ℕ}
 use native.Mathlib.Omega.{arith}
 use lib.ListN.{length}
-use Rattle.table.specs.declared.Refusal.{Refusal}
-use Rattle.table.specs.Refusals.{Says, gives, refuses, numberOf, placeOf}
+use Rattle.refusal.specs.declared.Refusal.{Refusal}
+use Rattle.refusal.specs.Refusals.{Says, gives, refuses, numberOf, placeOf}
 use Rattle.table.specs.Table.{Table, boxes}
 use Rattle.table.specs.Words.{boxCount, pairCount, Outcome, refused, accepted, tableOf, judged}
 use Rattle.table.specs.Faults.{Faultless, FirstMet}

@@ -11,8 +11,8 @@ use lib.Seq.{drop-cons, take-append-seam}
 use borrow.Author.Tests.{lt-ltb, le-leb, ne-eqb}
 use Rattle.lists.specs.Lists.{Each}
 use Rattle.lists.specs.Firsts.{firstOf}
-use Rattle.table.specs.declared.Refusal.{Refusal}
-use Rattle.table.specs.declared.Refusal.the-variants.{Count, Domain, Partner, Weight}
+use Rattle.refusal.specs.declared.Refusal.{Refusal}
+use Rattle.refusal.specs.declared.Refusal.the-variants.{Count, Domain, Partner, Weight}
 use Rattle.table.specs.Table.{Pair, Table, boxes, size, pairWords, wordsOf, In, SoundPair, Sound}
 use Rattle.table.specs.Words.{boxCount, pairCount, sizeAt, pairNext, pairsEnd, pairAt, pairsAt, tableOf, judged, accepted}
 use Rattle.table.specs.Words.{rangeFault, maskFault, sizeFault, partnersFault, pairFault, pairsFault, bodyFault, firstFault}

@@ -13,8 +13,8 @@ use borrow.Author.Tests.{ltb-true, leb-true, eqb-true, eqb-false, not-true, ne-e
 use Rattle.lists.specs.Firsts.{_then_, unless, firstOf}
 use Rattle.lists.proofs.Bits.{shift-none}
 use Rattle.lists.proofs.Firsts.{unless-none, then-none, first-none, first-each}
-use Rattle.table.specs.declared.Refusal.{Refusal}
-use Rattle.table.specs.declared.Refusal.the-variants.{Missing, Extra, Count, Domain, Partner, Weight, Mask}
+use Rattle.refusal.specs.declared.Refusal.{Refusal}
+use Rattle.refusal.specs.declared.Refusal.the-variants.{Missing, Extra, Count, Domain, Partner, Weight, Mask}
 use Rattle.table.specs.declared.Got.{Got}
 use Rattle.table.specs.declared.Got.the-variants.{Value}
 use Rattle.table.specs.Table.{Pair, Table, In, boxes}

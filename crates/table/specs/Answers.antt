@@ -4,14 +4,14 @@ use mathlib.Core.Path.{_≡_}
 use mathlib.Core.Option.{Option, none, some}
 use mathlib.Core.List.{List, [], _∷_}
 use lib.ListN.{length}
-use Rattle.table.specs.declared.Refusal.{Refusal}
+use Rattle.refusal.specs.declared.Refusal.{Refusal}
 use Rattle.table.specs.declared.Got.{Got}
 use Rattle.table.specs.declared.Got.the-variants.{Value, Wrong}
 use Rattle.table.specs.declared.Step.{Step}
 use Rattle.table.specs.declared.Step.the-variants.{Next, Stop}
 use Rattle.table.specs.declared.Counts.{Counts}
 use Rattle.table.specs.declared.Checked.{Checked}
-use Rattle.table.specs.Refusals.{Says, gives, refusalSays}
+use Rattle.refusal.specs.Refusals.{Says, gives, refusalSays}
 use Rattle.table.specs.Table.{boxes}
 use Rattle.table.specs.Words.{Outcome, refused, accepted, bodyFault, tableOf, Accepted}
 

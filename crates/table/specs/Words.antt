@@ -9,8 +9,8 @@ use mathlib.Core.List.{List, [], _∷_}
 use lib.ListN.{length, getD, take, drop}
 use lib.Dec.{ltb, leb, eqb}
 use Rattle.lists.specs.Firsts.{_then_, unless, firstOf}
-use Rattle.table.specs.declared.Refusal.{Refusal}
-use Rattle.table.specs.declared.Refusal.the-variants.{Missing, Extra, Count, Domain, Partner, Weight, Mask}
+use Rattle.refusal.specs.declared.Refusal.{Refusal}
+use Rattle.refusal.specs.declared.Refusal.the-variants.{Missing, Extra, Count, Domain, Partner, Weight, Mask}
 use Rattle.table.specs.Table.{Pair, Table, In}
 
 -- ---- where things stand

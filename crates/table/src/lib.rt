@@ -1,9 +1,9 @@
-// The checked table of boxes and weighted pairs, the refusals, and the cost of a plan.
+// The checked table of boxes and weighted pairs.
+use refusal::Refusal;
 ghost use mathlib.Core.Path.{_≡_};
 ghost use mathlib.Core.Option.{none};
 ghost use Prim.Native.Nat.{_+_, _^_, _≤_, _<_};
 ghost use lib.ListN.{length, getD};
-ghost use Rattle.table.specs.Refusals.{numberOf, placeOf};
 ghost use Rattle.table.specs.Words.{
   boxCount,
   sizeAt,
@@ -20,23 +20,6 @@ ghost use Rattle.table.specs.Words.{
   BoxStands,
 };
 ghost use Rattle.table.specs.Answers.{checkedOf, bodyOf, gotOf, stepOf};
-
-// A refusal of document 01, with its place: a case for each row of the document's list, in its order.
-pub enum Refusal {
-    Missing(usize),
-    Extra(usize),
-    Count(usize),
-    Domain(usize),
-    Partner(usize),
-    Weight(usize),
-    Mask(usize),
-    Choice,
-    Room(usize),
-    Length(usize),
-    Entry(usize),
-    Broken(usize),
-    Line(usize),
-}
 
 pub struct Counts {
     pub boxes: usize,
@@ -58,48 +41,6 @@ enum Got {
 enum Step {
     Next(usize),
     Stop(Refusal),
-}
-
-// The document's number of a refusal.
-pub fn number(f: Refusal) -> u32
-    ensures { λ r. ⌜ r ≡ numberOf f ⌝ }
-{
-    match f {
-        Refusal::Missing(_) => 1,
-        Refusal::Extra(_) => 2,
-        Refusal::Count(_) => 3,
-        Refusal::Domain(_) => 4,
-        Refusal::Partner(_) => 5,
-        Refusal::Weight(_) => 6,
-        Refusal::Mask(_) => 7,
-        Refusal::Choice => 8,
-        Refusal::Room(_) => 9,
-        Refusal::Length(_) => 10,
-        Refusal::Entry(_) => 11,
-        Refusal::Broken(_) => 12,
-        Refusal::Line(_) => 13,
-    }
-}
-
-// The document's place of a refusal.
-pub fn place(f: Refusal) -> usize
-    ensures { λ r. ⌜ r ≡ placeOf f ⌝ }
-{
-    match f {
-        Refusal::Missing(at) => at,
-        Refusal::Extra(at) => at,
-        Refusal::Count(at) => at,
-        Refusal::Domain(at) => at,
-        Refusal::Partner(at) => at,
-        Refusal::Weight(at) => at,
-        Refusal::Mask(at) => at,
-        Refusal::Choice => 0,
-        Refusal::Room(needed) => needed,
-        Refusal::Length(wanted) => wanted,
-        Refusal::Entry(at) => at,
-        Refusal::Broken(box_number) => box_number,
-        Refusal::Line(line) => line,
-    }
 }
 
 // The word at `at`, if it is there and lies in low..=high.

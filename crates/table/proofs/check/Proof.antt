@@ -2,7 +2,7 @@
 use Rattle.table.proofs.Words.{Ranged, got-ranged, checked-fault, checked-body}
 use Rattle.table.proofs.Answers.{got-wrong}
 use Rattle.table.specs.Words.{rangeFault, firstFault}
-use Rattle.table.specs.declared.Refusal.the-variants.{Count}
+use Rattle.refusal.specs.declared.Refusal.the-variants.{Count}
 use mathlib.Core.Path.{sym, _∙_}
 use borrow.Author.Needs.{needs}
 use Rattle.table.proofs.check.Statement.{statement}

@@ -2,7 +2,7 @@
 use Rattle.table.proofs.Words.{Ranged, got-ranged, box-stands, partners-none}
 use Rattle.table.proofs.Answers.{got-wrong, step-next, step-stop}
 use Rattle.table.specs.Words.{rangeFault, partnersFault, pairFault}
-use Rattle.table.specs.declared.Refusal.the-variants.{Weight}
+use Rattle.refusal.specs.declared.Refusal.the-variants.{Weight}
 use Prim.Native.Nat.{_+_}
 use mathlib.Core.Option.{none}
 use mathlib.Core.Path.{_≡_, sym, _∙_}

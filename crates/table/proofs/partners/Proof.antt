@@ -2,7 +2,7 @@
 use Rattle.table.proofs.Words.{Ranged, got-ranged}
 use Rattle.table.proofs.Answers.{got-wrong}
 use Rattle.table.specs.Words.{rangeFault, partnersFault}
-use Rattle.table.specs.declared.Refusal.the-variants.{Partner}
+use Rattle.refusal.specs.declared.Refusal.the-variants.{Partner}
 use Prim.Native.Nat.{_+_}
 use mathlib.Core.Path.{sym, _∙_}
 use native.Mathlib.Omega.{arith}

@@ -1,8 +1,8 @@
 -- The refusals of document 01: the number and the place of each, and what an answer says in the document's terms.
 use Prim.Native.Nat.{ℕ}
 use mathlib.Core.List.{List}
-use Rattle.table.specs.declared.Refusal.{Refusal}
-use Rattle.table.specs.declared.Refusal.the-variants.{Missing, Extra, Count, Domain, Partner, Weight, Mask, Choice, Room, Length, Entry, Broken, Line}
+use Rattle.refusal.specs.declared.Refusal.{Refusal}
+use Rattle.refusal.specs.declared.Refusal.the-variants.{Missing, Extra, Count, Domain, Partner, Weight, Mask, Choice, Room, Length, Entry, Broken, Line}
 
 abbrev pub numberOf : Refusal → ℕ
 numberOf (Missing at) = 1
