@@ -1,0 +1,9 @@
+pub mod Encodings
+pub mod Clause
+pub mod Numbers
+pub mod Hard
+pub mod Ends
+pub mod Choice
+pub mod Soft
+pub mod List
+pub mod Lengths
