@@ -1,0 +1,109 @@
+// The stores into lent buffers, of which every writer is made. A cursor goes in and the next one comes out; a store past the
+// buffer's end moves the cursor alone, so that what is written never depends on what was judged about the room.
+ghost use mathlib.Core.Path.{_≡_};
+ghost use mathlib.Core.List.{[], _∷_};
+ghost use Prim.Native.Nat.{_+_, _^_, _<_};
+ghost use lib.ListN.{length, replicate};
+ghost use lib.IntN.{pos};
+ghost use Rattle.lists.specs.Stores.{Wrote};
+ghost use Rattle.puts.specs.Signed.{neg, zeros};
+
+fn put(out: &mut [i32], at: usize, v: i32) -> usize
+    requires { ⌜ at + 1 < 2 ^ 64 ⌝ }
+    ensures { λ r. ⌜ Wrote (now (out .entry)) at (v ∷ []) r (now (out .exit)) ⌝ }
+{
+    if at < out.len() {
+        out[at] = v;
+        return at + 1;
+    }
+    at + 1
+}
+
+fn literal(v: u32) -> i32
+    requires { ⌜ v < 2 ^ 31 ⌝ }
+    ensures { λ r. ⌜ r ≡ pos v ⌝ }
+{
+    v as i32
+}
+
+fn negation(v: u32) -> i32
+    requires { ⌜ v < 2 ^ 31 ⌝ }
+    ensures { λ r. ⌜ r ≡ neg v ⌝ }
+{
+    -(v as i32)
+}
+
+// The literal of a variable.
+pub fn put_plus(out: &mut [i32], at: usize, v: u32) -> usize
+    requires { ⌜ (at + 1 < 2 ^ 64) × (v < 2 ^ 31) ⌝ }
+    ensures { λ r. ⌜ Wrote (now (out .entry)) at (pos v ∷ []) r (now (out .exit)) ⌝ }
+{
+    put(out, at, literal(v))
+}
+
+// The literal of its negation.
+pub fn put_minus(out: &mut [i32], at: usize, v: u32) -> usize
+    requires { ⌜ (at + 1 < 2 ^ 64) × (v < 2 ^ 31) ⌝ }
+    ensures { λ r. ⌜ Wrote (now (out .entry)) at (neg v ∷ []) r (now (out .exit)) ⌝ }
+{
+    put(out, at, negation(v))
+}
+
+// The 0 that closes a clause.
+pub fn put_close(out: &mut [i32], at: usize) -> usize
+    requires { ⌜ at + 1 < 2 ^ 64 ⌝ }
+    ensures { λ r. ⌜ Wrote (now (out .entry)) at (pos 0 ∷ []) r (now (out .exit)) ⌝ }
+{
+    put_plus(out, at, 0)
+}
+
+// A part that was written elsewhere, handed on.
+pub fn put_part(part: &[i32], out: &mut [i32], from: usize) -> usize
+    requires { ⌜ from + length (now part) < 2 ^ 64 ⌝ }
+    ensures { λ r. ⌜ Wrote (now (out .entry)) from (now (part .entry)) r (now (out .exit)) ⌝ }
+{
+    let mut at = from;
+    let mut i = 0;
+    while i < part.len() {
+        let v = part[i];
+        at = put(out, at, v);
+        i += 1;
+    }
+    at
+}
+
+// Every entry becomes 0.
+pub fn clear(s: &mut [i32])
+    ensures { λ _. ⌜ now (s .exit) ≡ zeros (now (s .entry)) ⌝ }
+{
+    let mut i = 0;
+    while i < s.len() {
+        s[i] = 0;
+        i += 1;
+    }
+}
+
+fn put_weight(out: &mut [u64], at: usize, w: u64) -> usize
+    requires { ⌜ at + 1 < 2 ^ 64 ⌝ }
+    ensures { λ r. ⌜ Wrote (now (out .entry)) at (w ∷ []) r (now (out .exit)) ⌝ }
+{
+    if at < out.len() {
+        out[at] = w;
+        return at + 1;
+    }
+    at + 1
+}
+
+// The weight of a part's clauses, one entry for each.
+pub fn put_weights(out: &mut [u64], from: usize, w: u64, count: usize) -> usize
+    requires { ⌜ from + count < 2 ^ 64 ⌝ }
+    ensures { λ r. ⌜ Wrote (now (out .entry)) from (replicate count w) r (now (out .exit)) ⌝ }
+{
+    let mut at = from;
+    let mut i = 0;
+    while i < count {
+        at = put_weight(out, at, w);
+        i += 1;
+    }
+    at
+}
