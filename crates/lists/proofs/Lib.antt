@@ -2,6 +2,7 @@ pub mod Truth
 pub mod Lists
 pub mod Runs
 pub mod Blocks
+pub mod Sums
 pub mod Parts
 pub mod Firsts
 pub mod Foremost

@@ -1,7 +1,7 @@
 -- `all`, `any` and `sumOf` over a run of numbers s .. s + n - 1. A sum whose terms are 0 but at one number is that term: this carries every side's argument.
 use mathlib.Core.Path.{_≡_, refl, sym, ap, ap₂, _∙_, subst}
 use mathlib.Core.Logic.{_≢_}
-use Prim.Native.Nat.{ℕ, zero, suc, _+_, _≤_, _<_}
+use Prim.Native.Nat.{ℕ, zero, suc, _+_, _-_, _≤_, _<_}
 use native.Mathlib.Nat.{zero-add, add-zero}
 use native.Mathlib.Omega.{arith}
 use mathlib.Core.Bool.{Bool, true, false, not, _&&_, _||_, and-true}
@@ -74,3 +74,14 @@ sum-snoc f s n = ap (sumOf f) (count-snoc s n) ∙ sum-append f (count s n) ((s 
 
 pub all-snoc : (f : ℕ → Bool) (s n : ℕ) → all f (count s (suc n)) ≡ (all f (count s n) && f (s + n))
 all-snoc f s n = ap (all f) (count-snoc s n) ∙ all-append f (count s n) ((s + n) ∷ []) ∙ ap (λ (o : Bool). all f (count s n) && o) (and-true (f (s + n)))
+
+-- ---- a run from its front, as a loop counts: from j to m
+
+pub count-turn : (j m : ℕ) → j ≤ m → count j (m + 1 - j) ≡ j ∷ count (j + 1) (m + 1 - (j + 1))
+count-turn j m h = let e : m + 1 - j ≡ suc (m + 1 - (j + 1)) = omega arith in let z : suc j ≡ j + 1 = omega arith in rw (e, z)
+
+pub count-end : (j m : ℕ) → m < j → count j (m + 1 - j) ≡ []
+count-end j m h = let e : m + 1 - j ≡ 0 = omega arith in rw e
+
+pub count-all : (m : ℕ) → count 1 (m + 1 - 1) ≡ count 1 m
+count-all m = let e : m + 1 - 1 ≡ m = omega arith in rw e

@@ -1,0 +1,382 @@
+-- The hard part of one box says that it holds one value: proved once over its number of values, for any numbers of its variables.
+use mathlib.Core.Path.{_≡_, refl, sym, ap, ap₂, _∙_}
+use mathlib.Core.Logic.{_↔_, _≢_}
+use Prim.Native.Nat.{ℕ, zero, suc, _+_, _-_, _≤_, _<_}
+use native.Mathlib.Omega.{arith}
+use mathlib.Core.Bool.{Bool, true, false, not, _&&_, _||_, Bool·beq, or-false, or-true, and-true, cond}
+use lib.Dec.{eqb, leb}
+use borrow.Author.Tests.{eq-eqb, ne-eqb, le-leb, lt-leb, leb-true, eqb-true}
+use Rattle.lists.specs.Lists.{count, all, any, sumOf}
+use Rattle.lists.proofs.Truth.{and-left, and-right, both, test, clash, order, same}
+use Rattle.lists.proofs.Lists.{all-append, all-map, all-flat, any-map}
+use Rattle.lists.proofs.Runs.{all-at, at-all, any-at, at-any, sum-only}
+use Rattle.clause.specs.declared.Hard.{Hard}
+use Rattle.clause.specs.declared.Hard.the-variants.{Standard, Regular}
+use Rattle.clause.specs.Clause.{Reading, allTrue}
+use Rattle.clause.specs.Numbers.{valueFrom, stepFrom}
+use Rattle.clause.specs.Hard.{standardBox, regularBox, chainAt, lowest, between, highest, boxWith}
+
+-- the box holds value a: of its variables the one of value a is true, and no other
+pub record Holds (ν : Reading) (x : ℕ → ℕ) (m a : ℕ) : Type 0 where
+  pub low : 1 ≤ a
+  pub high : a ≤ m
+  pub at : (j : ℕ) → 1 ≤ j → j ≤ m → ν (x j) ≡ eqb j a
+
+pub holds-is : {ν : Reading} {x : ℕ → ℕ} {m a : ℕ} → Holds ν x m a → ν (x a) ≡ true
+holds-is {a} H = H .at a (H .low) (H .high) ∙ eq-eqb a a refl
+
+pub holds-not : {ν : Reading} {x : ℕ → ℕ} {m a : ℕ} → Holds ν x m a → (j : ℕ) → 1 ≤ j → j < 1 + m → j ≢ a → ν (x j) ≡ false
+holds-not {a} H j l h q = H .at j l (omega arith) ∙ ne-eqb j a q
+
+-- its thresholds say the same
+abbrev pub Climbs : Reading → (ℕ → ℕ) → ℕ → ℕ → Type 0
+Climbs ν r m a = (j : ℕ) → 2 ≤ j → j ≤ m → ν (r j) ≡ leb j a
+
+-- ---- standard
+
+-- a clause of two negations: at most one is true
+nand : Bool → Bool → Bool
+nand p q = not p || (not q || false)
+
+nand-left : (p q : Bool) → nand p q ≡ true → q ≡ true → p ≡ false
+unfolding nand
+nand-left true true e f = sym e
+nand-left true false e f = sym f
+nand-left false q e f = refl
+
+nand-right : (p q : Bool) → nand p q ≡ true → p ≡ true → q ≡ false
+unfolding nand
+nand-right true true e f = sym e
+nand-right true false e f = refl
+nand-right false true e f = sym f
+nand-right false false e f = refl
+
+-- two different values are not both a
+nand-eqb : (a j k : ℕ) → j < k → nand (eqb j a) (eqb k a) ≡ true
+unfolding nand
+nand-eqb a j k h = same j a (λ q. rw (ne-eqb k a (λ z. omega arith)) (or-true (not (eqb j a)))) (λ q. rw (ne-eqb j a q))
+
+-- what the clauses say of the variables
+standard-says : (ν : Reading) (x : ℕ → ℕ) (m : ℕ)
+    → allTrue ν (standardBox x m)
+    ≡ (any (λ j. ν (x j)) (count 1 m) && all (λ j. all (λ k. nand (ν (x j)) (ν (x k))) (count (suc j) (m - j))) (count 1 m))
+unfolding standardBox nand
+standard-says ν x m = simp (any-map, all-flat, all-map)
+
+module _ (ν : Reading) (x : ℕ → ℕ) (m : ℕ) where
+  pub standard-holds : allTrue ν (standardBox x m) ≡ true → (a : ℕ) × Holds ν x m a
+  standard-holds e =
+      let f : ℕ → Bool = λ j. ν (x j) in
+      let some : Bool = any f (count 1 m) in
+      let apart : ℕ → Bool = λ j. all (λ k. nand (f j) (f k)) (count (suc j) (m - j)) in
+      let g : (some && all apart (count 1 m)) ≡ true = sym (standard-says ν x m) ∙ e in
+      let (a, l, h, t) = any-at f 1 m (and-left some (all apart (count 1 m)) g) in
+      let pairs : (j k : ℕ) → 1 ≤ j → j < k → k ≤ m → nand (f j) (f k) ≡ true
+      = λ j k p q u. all-at (λ k. nand (f j) (f k)) (suc j) (m - j)
+      (all-at apart 1 m (and-right some (all apart (count 1 m)) g) j (omega arith) (omega arith)) k (omega arith) (omega arith) in (
+        a,
+        record {
+          low = l;
+          high = omega arith;
+          at = λ j p q.
+              order a j
+              (λ u. same a j
+              (λ z. rw (← z) (t ∙ sym (eq-eqb a a refl)))
+              (λ z. nand-right (f a) (f j) (pairs a j (omega arith) (omega arith) q) t ∙ sym (ne-eqb j a (λ y. omega arith))))
+              (λ u. nand-left (f j) (f a) (pairs j a p u (omega arith)) t ∙ sym (ne-eqb j a (λ y. omega arith)));
+        },
+      )
+
+  pub holds-standard : (a : ℕ) → Holds ν x m a → allTrue ν (standardBox x m) ≡ true
+  holds-standard a H =
+      rw standard-says
+      (both (at-any (λ j. ν (x j)) 1 m a (H .low) (omega arith) (holds-is H))
+      (at-all _ 1 m (λ j l h. at-all _ (suc j) (m - j) (λ k p q.
+      ap₂ nand (H .at j l (omega arith)) (H .at k (omega arith) (omega arith)) ∙ nand-eqb a j k p))))
+
+-- ---- regular
+
+-- The links of a value: the three clauses say that x_j is r_j and not r_(j+1), the two of an outer value the same without the missing threshold.
+
+between-says : (ν : Reading) (x r : ℕ → ℕ) (j : ℕ) → allTrue ν (between x r j) ≡ Bool·beq (ν (x j)) (ν (r j) && not (ν (r (suc j))))
+unfolding between
+between-says ν x r j = go (ν (x j)) (ν (r j)) (ν (r (suc j)))
+  where
+    go : (p q s : Bool)
+        → ((not p || (q || false)) && ((not p || (not s || false)) && ((p || (not q || (s || false))) && true))) ≡ Bool·beq p (q && not s)
+    go true true true = refl
+    go true true false = refl
+    go true false true = refl
+    go true false false = refl
+    go false true true = refl
+    go false true false = refl
+    go false false true = refl
+    go false false false = refl
+
+lowest-says : (ν : Reading) (x r : ℕ → ℕ) → allTrue ν (lowest x r) ≡ Bool·beq (ν (x 1)) (not (ν (r 2)))
+unfolding lowest
+lowest-says ν x r = go (ν (x 1)) (ν (r 2))
+  where
+    go : (p q : Bool) → ((not p || (not q || false)) && ((p || (q || false)) && true)) ≡ Bool·beq p (not q)
+    go true true = refl
+    go true false = refl
+    go false true = refl
+    go false false = refl
+
+highest-says : (ν : Reading) (x r : ℕ → ℕ) (m : ℕ) → allTrue ν (highest x r m) ≡ Bool·beq (ν (x m)) (ν (r m))
+unfolding highest
+highest-says ν x r m = go (ν (x m)) (ν (r m))
+  where
+    go : (p q : Bool) → ((not p || (q || false)) && ((p || (not q || false)) && true)) ≡ Bool·beq p q
+    go true true = refl
+    go true false = refl
+    go false true = refl
+    go false false = refl
+
+beq-eq : (p q : Bool) → Bool·beq p q ≡ true → p ≡ q
+beq-eq true true e = refl
+beq-eq true false e = sym e
+beq-eq false true e = e
+beq-eq false false e = refl
+
+eq-beq : (p q : Bool) → p ≡ q → Bool·beq p q ≡ true
+eq-beq true true e = refl
+eq-beq true false e = sym e
+eq-beq false true e = e
+eq-beq false false e = refl
+
+-- at least j and not at least j + 1 is j
+only-at : (j a : ℕ) → (leb j a && not (leb (suc j) a)) ≡ eqb j a
+only-at j a =
+    order j a
+    (λ h. same j a
+    (λ q. rw (le-leb j a h, lt-leb (suc j) a (omega arith), eq-eqb j a q))
+    (λ q. rw (le-leb j a h, le-leb (suc j) a (omega arith), ne-eqb j a q)))
+    (λ h. rw (lt-leb j a h, ne-eqb j a (λ z. omega arith)))
+
+implies : (p q : Bool) → (not p || (q || false)) ≡ true → p ≡ true → q ≡ true
+implies true true e f = refl
+implies true false e f = e
+implies false true e f = refl
+implies false false e f = f
+
+-- a falling row of thresholds stops at some value
+climb : (f : ℕ → Bool) (n : ℕ) → ((j : ℕ) → 3 ≤ j → j ≤ suc n → f j ≡ true → f (j - 1) ≡ true)
+    → (a : ℕ) × (1 ≤ a) × (a ≤ suc n) × ((j : ℕ) → 2 ≤ j → j ≤ suc n → f j ≡ leb j a)
+climb f zero g = (1, omega arith, omega arith, λ j l h. absurd (omega arith))
+climb f (suc n) g =
+    let (a, l, h, t) = climb f n (λ j p q. g j p (omega arith)) in
+    test (f (suc (suc n)))
+    (λ e. (
+      suc (suc n),
+      omega arith,
+      omega arith,
+      λ j p q.
+          order j (suc n)
+          (λ u.
+          let back : suc n ≡ suc (suc n) - 1 = omega arith in
+          let d : f (suc n) ≡ true = ap f back ∙ g (suc (suc n)) (omega arith) (omega arith) e in
+          let k : suc n ≤ a = leb-true (suc n) a (sym (t (suc n) (omega arith) (omega arith)) ∙ d) in
+          t j p u ∙ le-leb j a (omega arith))
+          (λ u. let z : j ≡ suc (suc n) = omega arith in ap f z ∙ e)
+          ∙ sym (le-leb j (suc (suc n)) q),
+    ))
+    (λ e. (
+      a,
+      l,
+      omega arith,
+      λ j p q.
+          order j (suc n) (λ u. t j p u) (λ u.
+          let z : j ≡ suc (suc n) = omega arith in
+          ap f z ∙ e ∙ sym (lt-leb j a (omega arith))),
+    ))
+
+-- what the clauses of a box with two or more values say, as tests and as facts
+module _ (ν : Reading) (x r : ℕ → ℕ) where
+  chainOk : ℕ → Bool
+  chainOk j = not (ν (r j)) || (ν (r (j - 1)) || false)
+
+  midOk : ℕ → Bool
+  midOk j = Bool·beq (ν (x j)) (ν (r j) && not (ν (r (suc j))))
+
+  lowOk : Bool
+  lowOk = Bool·beq (ν (x 1)) (not (ν (r 2)))
+
+  highOk : ℕ → Bool
+  highOk m = Bool·beq (ν (x m)) (ν (r m))
+
+  regular-says : (k : ℕ)
+      → allTrue ν (regularBox x r (suc (suc k))) ≡ (all chainOk (count 3 k) && (lowOk && (all midOk (count 2 k) && highOk (suc (suc k)))))
+  unfolding regularBox chainAt chainOk midOk lowOk highOk
+  regular-says k = simp (all-append, all-map, all-flat, between-says, lowest-says, highest-says)
+
+record Links (ν : Reading) (x r : ℕ → ℕ) (k : ℕ) : Type 0 where
+  chain : (j : ℕ) → 3 ≤ j → j < 3 + k → (not (ν (r j)) || (ν (r (j - 1)) || false)) ≡ true
+  low : ν (x 1) ≡ not (ν (r 2))
+  mid : (j : ℕ) → 2 ≤ j → j < 2 + k → ν (x j) ≡ (ν (r j) && not (ν (r (suc j))))
+  high : ν (x (suc (suc k))) ≡ ν (r (suc (suc k)))
+
+four : (p q s t : Bool) → (p && (q && (s && t))) ≡ true → (p ≡ true) × (q ≡ true) × (s ≡ true) × (t ≡ true)
+four p q s t e =
+    let f = and-right p (q && (s && t)) e in
+    let g = and-right q (s && t) f in
+    (and-left p (q && (s && t)) e, and-left q (s && t) f, and-left s t g, and-right s t g)
+
+module _ (ν : Reading) (x r : ℕ → ℕ) where
+  links : (k : ℕ) → allTrue ν (regularBox x r (suc (suc k))) ≡ true → Links ν x r k
+  unfolding chainOk midOk lowOk highOk
+  links k e =
+      let (c, l, m, h) =
+      four (all (chainOk ν x r) (count 3 k)) (lowOk ν x r) (all (midOk ν x r) (count 2 k)) (highOk ν x r (suc (suc k))) (sym (regular-says ν x r k) ∙ e) in
+      record {
+        chain = all-at (chainOk ν x r) 3 k c;
+        low = beq-eq (ν (x 1)) (not (ν (r 2))) l;
+        mid = λ j p q. beq-eq (ν (x j)) (ν (r j) && not (ν (r (suc j)))) (all-at (midOk ν x r) 2 k m j p q);
+        high = beq-eq (ν (x (suc (suc k)))) (ν (r (suc (suc k)))) h;
+      }
+
+  unlinks : (k : ℕ) → Links ν x r k → allTrue ν (regularBox x r (suc (suc k))) ≡ true
+  unfolding chainOk midOk lowOk highOk
+  unlinks k L =
+      regular-says ν x r k
+      ∙ both (at-all (chainOk ν x r) 3 k (L .chain))
+      (both (eq-beq (ν (x 1)) (not (ν (r 2))) (L .low))
+      (both (at-all (midOk ν x r) 2 k (λ j l h. eq-beq (ν (x j)) (ν (r j) && not (ν (r (suc j)))) (L .mid j l h)))
+      (eq-beq (ν (x (suc (suc k)))) (ν (r (suc (suc k)))) (L .high))))
+
+  pub regular-holds : (m : ℕ) → allTrue ν (regularBox x r m) ≡ true → (a : ℕ) × Holds ν x m a × Climbs ν r m a
+  unfolding regularBox
+  regular-holds zero e = clash e refl
+  regular-holds (suc zero) e = (
+    1,
+    record {
+      low = omega arith;
+      high = omega arith;
+      at = λ j l h.
+          let z : j ≡ 1 = omega arith in
+          ap (λ (i : ℕ). ν (x i)) z ∙ sym (or-false (ν (x 1))) ∙ and-left (ν (x 1) || false) true e ∙ sym (eq-eqb j 1 z);
+    },
+    λ j l h. absurd (omega arith),
+  )
+  regular-holds (suc (suc k)) e =
+      let top = suc (suc k) in
+      let L : Links ν x r k = links k e in
+      let (a, l, h, t) = climb (λ j. ν (r j)) (suc k) (λ j p q. implies (ν (r j)) (ν (r (j - 1))) (L .chain j p (omega arith))) in
+      let here : (j : ℕ) → 1 ≤ j → j ≤ top → ν (x j) ≡ (leb j a && not (leb (suc j) a)) = λ j p q.
+      same j 1
+      (λ z. rw (z, L .low, t 2 (omega arith) (omega arith), le-leb 1 a l))
+      (λ z. same j top
+      (λ y. rw (y, L .high, t top (omega arith) (omega arith), lt-leb (suc top) a (omega arith)) (sym (and-true (leb top a))))
+      (λ y. L .mid j (omega arith) (omega arith)
+      ∙ ap₂ (λ (p q : Bool). p && not q) (t j (omega arith) (omega arith)) (t (suc j) (omega arith) (omega arith)))) in
+      (a, record { low = l; high = h; at = λ j p q. here j p q ∙ only-at j a }, t)
+
+  pub holds-regular : (m a : ℕ) → Holds ν x m a → Climbs ν r m a → allTrue ν (regularBox x r m) ≡ true
+  unfolding regularBox
+  holds-regular zero a H C = absurd (omega (arith, H .low, H .high))
+  holds-regular (suc zero) a H C = rw (H .at 1 (omega arith) (omega arith), eq-eqb 1 a (omega (arith, H .low, H .high)))
+  holds-regular (suc (suc k)) a H C =
+      let top = suc (suc k) in
+      let l : 1 ≤ a = H .low in
+      let h : a ≤ top = H .high in
+      let here : (j : ℕ) (p q : Bool) → 1 ≤ j → j ≤ top → leb j a ≡ p → leb (suc j) a ≡ q → ν (x j) ≡ (p && not q)
+      = λ j p q u v e f. H .at j u v ∙ sym (only-at j a) ∙ ap₂ (λ (p q : Bool). p && not q) e f in
+      unlinks k (record {
+        chain = λ j p q.
+            order j a
+            (λ u. rw (C j (omega arith) (omega arith), C (j - 1) (omega arith) (omega arith), le-leb j a u, le-leb (j - 1) a (omega arith)))
+            (λ u. rw (C j (omega arith) (omega arith), lt-leb j a u));
+        low = here 1 true (ν (r 2)) (omega arith) (omega arith) (le-leb 1 a l) (sym (C 2 (omega arith) (omega arith)));
+        mid = λ j p q.
+            here j (ν (r j)) (ν (r (suc j))) (omega arith) (omega arith) (sym (C j (omega arith) (omega arith))) (sym (C (suc j) (omega arith) (omega arith)));
+        high = here top (ν (r top)) false (omega arith) (omega arith) (sym (C top (omega arith) (omega arith))) (lt-leb (suc top) a (omega arith))
+            ∙ and-true (ν (r top));
+      })
+
+-- ---- the two hard parts, exactly
+
+-- THEOREM. All standard clauses of a box are true exactly if one of its variables is, and no other.
+pub standard-exact : (ν : Reading) (x : ℕ → ℕ) (m : ℕ) → (allTrue ν (standardBox x m) ≡ true) ↔ ((a : ℕ) × Holds ν x m a)
+standard-exact ν x m = (standard-holds ν x m, λ H. holds-standard ν x m (H .0) (H .1))
+
+-- THEOREM. All regular clauses of a box are true exactly if, for some value a, x_a alone is true of its variables, and r_j exactly for j ≤ a.
+pub regular-exact : (ν : Reading) (x r : ℕ → ℕ) (m : ℕ) → (allTrue ν (regularBox x r m) ≡ true) ↔ ((a : ℕ) × Holds ν x m a × Climbs ν r m a)
+regular-exact ν x r m = (regular-holds ν x r m, λ H. holds-regular ν x r m (H .0) (H .1) (H .2))
+
+-- a box holds at most one value
+pub holds-one : (ν : Reading) (x : ℕ → ℕ) (m a b : ℕ) → Holds ν x m a → Holds ν x m b → a ≡ b
+holds-one ν x m a b H K = eqb-true a b (sym (K .at a (H .low) (H .high)) ∙ holds-is H)
+
+-- ---- exactly one entry is 1
+
+-- how many of a run of variables are true
+abbrev pub trues : (ℕ → Bool) → ℕ → ℕ → ℕ
+trues f s n = sumOf (λ j. cond (f j) 1 0) (count s n)
+
+none-true : (f : ℕ → Bool) (s n : ℕ) → trues f s n ≡ 0 → (j : ℕ) → s ≤ j → j < s + n → f j ≡ false
+none-true f s zero e j l h = absurd (omega arith)
+none-true f s (suc n) e j l h =
+    test (f s) (λ p. absurd (omega (arith, rw p at e)))
+    (λ p. same s j (λ q. rw (← q) p) (λ q. none-true f (suc s) n (omega (arith, rw p at e)) j (omega arith) (omega arith)))
+
+one-true : (f : ℕ → Bool) (s n : ℕ) → trues f s n ≡ 1 → (a : ℕ) × (s ≤ a) × (a < s + n) × ((j : ℕ) → s ≤ j → j < s + n → f j ≡ eqb j a)
+one-true f s zero e = absurd (omega arith)
+one-true f s (suc n) e =
+    test (f s)
+    (λ p. (
+      s,
+      omega arith,
+      omega arith,
+      λ j l h.
+          same s j (λ q. rw (← q) (p ∙ sym (eq-eqb s s refl)))
+          (λ q. none-true f (suc s) n (omega (arith, rw p at e)) j (omega arith) (omega arith) ∙ sym (ne-eqb j s (λ z. omega arith))),
+    ))
+    (λ p. let (a, l, h, t) = one-true f (suc s) n (omega (arith, rw p at e)) in (
+      a,
+      omega arith,
+      omega arith,
+      λ j u v.
+          same s j (λ q. rw (← q) (p ∙ sym (ne-eqb s a (λ z. omega arith)))) (λ q. t j (omega arith) (omega arith)),
+    ))
+
+-- a box holds a value exactly if one of its variables is true
+pub holds-exact : (ν : Reading) (x : ℕ → ℕ) (m : ℕ) → (trues (λ j. ν (x j)) 1 m ≡ 1) ↔ ((a : ℕ) × Holds ν x m a)
+holds-exact ν x m = (
+  λ e. let (a, l, h, t) = one-true (λ j. ν (x j)) 1 m e in (a, record { low = l; high = omega arith; at = λ j p q. t j p (omega arith) }),
+  λ w.
+      let a = w .0 in
+      let H = w .1 in
+      sum-only (λ j. cond (ν (x j)) 1 0) 1 m a (H .low) (omega (arith, H .high)) (λ j u v q. rw (holds-not H j u v q))
+      ∙ rw (holds-is H),
+)
+
+-- THEOREM. All standard clauses of a box are true exactly if one of its variables is true.
+pub standard-one : (ν : Reading) (x : ℕ → ℕ) (m : ℕ) → (allTrue ν (standardBox x m) ≡ true) ↔ (trues (λ j. ν (x j)) 1 m ≡ 1)
+standard-one ν x m = (λ e. holds-exact ν x m .1 (standard-holds ν x m e), λ e. standard-exact ν x m .1 (holds-exact ν x m .0 e))
+
+-- THEOREM. All regular clauses of a box are true exactly if one of its variables is true and its thresholds say the value that it holds.
+pub regular-one : (ν : Reading) (x r : ℕ → ℕ) (m : ℕ)
+    → (allTrue ν (regularBox x r m) ≡ true) ↔ ((trues (λ j. ν (x j)) 1 m ≡ 1) × ((a : ℕ) → Holds ν x m a → Climbs ν r m a))
+regular-one ν x r m = (
+  λ e.
+      let (a, H, C) = regular-holds ν x r m e in
+      (holds-exact ν x m .1 (a, H), λ b K j l h. C j l h ∙ ap (leb j) (holds-one ν x m a b H K)),
+  λ w. let (a, H) = holds-exact ν x m .0 (w .0) in holds-regular ν x r m a H (w .1 a H),
+)
+
+-- ---- both hard parts by one name
+
+-- the thresholds of the regular part, where there are any
+abbrev pub Steps : Hard → Reading → (s m a : ℕ) → Type 0
+Steps Standard ν s m a = Unit {0}
+Steps Regular ν s m a = Climbs ν (stepFrom s) m a
+
+pub box-holds : (h : Hard) (ν : Reading) (v s m : ℕ) → allTrue ν (boxWith h v s m) ≡ true → (a : ℕ) × Holds ν (valueFrom v) m a × Steps h ν s m a
+unfolding boxWith
+box-holds Standard ν v s m e = let (a, H) = standard-holds ν (valueFrom v) m e in (a, H, tt)
+box-holds Regular ν v s m e = regular-holds ν (valueFrom v) (stepFrom s) m e
+
+pub holds-box : (h : Hard) (ν : Reading) (v s m a : ℕ) → Holds ν (valueFrom v) m a → Steps h ν s m a → allTrue ν (boxWith h v s m) ≡ true
+unfolding boxWith
+holds-box Standard ν v s m a H C = holds-standard ν (valueFrom v) m a H
+holds-box Regular ν v s m a H C = holds-regular ν (valueFrom v) (stepFrom s) m a H C

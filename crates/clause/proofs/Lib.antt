@@ -1,0 +1,4 @@
+pub mod Boxes
+pub mod Soft
+pub mod Weights
+pub mod Lengths
