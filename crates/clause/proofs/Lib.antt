@@ -2,3 +2,4 @@ pub mod Boxes
 pub mod Soft
 pub mod Weights
 pub mod Lengths
+pub mod Turns
