@@ -14,12 +14,9 @@ use Rattle.lists.specs.Firsts.{unless, firstOf}
 use Rattle.lists.proofs.Firsts.{unless-none, then-none, none-then, first-each, each-first}
 use Rattle.refusal.specs.declared.Refusal.{Refusal}
 use Rattle.refusal.specs.declared.Refusal.the-variants.{Length, Entry}
-use Rattle.table.specs.declared.Counts.{Counts}
 use Rattle.table.specs.Table.{Table, boxes, size, allowed, In}
-use Rattle.table.specs.Words.{boxCount, pairCount, sizeAt, pairAt, pairNext, pairsAt, tableOf, Accepted, PairStands}
-use Rattle.table.specs.Answers.{Counted}
-use Rattle.table.proofs.Words.{accepted-parts, pairs-turn, pairs-last}
-use Rattle.table.proofs.Tables.{table-boxes, table-count, table-size, table-pairs, pair-first, pair-second, pair-weight}
+use Rattle.table.specs.Words.{boxCount, pairCount, sizeAt, pairAt, tableOf, Accepted, PairStands}
+use Rattle.table.proofs.Tables.{table-boxes, table-size, table-pairs, sumAhead, pair-first, pair-second, pair-weight}
 use Rattle.reader.specs.declared.PairHead.{PairHead}
 use Rattle.reader.specs.Reader.{headAt}
 use Rattle.plan.specs.declared.Judged.{Judged}
@@ -147,31 +144,6 @@ charge-light ws plan at S = go (broken plan (pairAt ws at))
 
 -- ---- the sum over the pairs
 
-pub record Start (ws : List ℕ) (c : Counts) : Type 0 where
-  pub boxes : c .boxes ≡ boxCount ws
-  pub pairs : c .pairs ≡ pairCount ws
-  pub few-boxes : boxCount ws ≤ 64
-  pub few-pairs : pairCount ws ≤ 256
-
-pub counted-start : (ws : List ℕ) (c : Counts) → Counted ws c → Start ws c
-counted-start ws c C =
-    record {
-      boxes = C .boxes ∙ table-boxes ws (C .table);
-      pairs = C .pairs ∙ table-count ws (C .table);
-      few-boxes = accepted-parts ws (C .table) .boxes .range .1;
-      few-pairs = accepted-parts ws (C .table) .pairs .range .1;
-    }
-
--- what the pairs ahead are charged, all of them at the start
-abbrev pub Owed : List ℕ → List ℕ → ℕ → ℕ → ℕ
-Owed ws plan k at = sumOf (charge plan) (pairsAt ws k at)
-
-pub owed-all : (ws plan : List ℕ) → cost (tableOf ws) plan ≡ Owed ws plan (pairCount ws) (boxCount ws + 2)
+pub cost-all : (ws plan : List ℕ) → cost (tableOf ws) plan ≡ sumAhead ws (charge plan) (pairCount ws) (boxCount ws + 2)
 unfolding cost
-owed-all ws plan = ap (sumOf (charge plan)) (table-pairs ws)
-
-pub owed-turn : (ws plan : List ℕ) (p k at : ℕ) → k < p → Owed ws plan (p - k) at ≡ charge plan (pairAt ws at) + Owed ws plan (p - (k + 1)) (pairNext ws at)
-owed-turn ws plan p k at h = ap (sumOf (charge plan)) (pairs-turn ws p k at h)
-
-pub owed-none : (ws plan : List ℕ) (p k at : ℕ) → p - k ≡ 0 → Owed ws plan (p - k) at ≡ 0
-owed-none ws plan p k at e = ap (sumOf (charge plan)) (pairs-last ws p k at e)
+cost-all ws plan = ap (sumOf (charge plan)) (table-pairs ws)

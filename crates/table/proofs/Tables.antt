@@ -5,10 +5,12 @@ use Prim.Native.Nat.{ℕ, _+_, _-_, _≤_, _<_}
 use native.Mathlib.Omega.{arith}
 use lib.ListN.{length, getD, drop, length-drop}
 use lib.Seq.{length-take-le, getD-take, getD-drop}
-use Rattle.lists.specs.Lists.{nth}
-use Rattle.table.specs.Table.{boxes, size, In}
-use Rattle.table.specs.Words.{boxCount, pairCount, sizeAt, pairAt, pairsAt, tableOf, Accepted, BoxStands, PairStands, Ahead}
-use Rattle.table.proofs.Words.{accepted-fine, accepted-parts, table-counts, box-stands, pairs-ahead}
+use Rattle.lists.specs.Lists.{nth, sumOf}
+use Rattle.table.specs.declared.Counts.{Counts}
+use Rattle.table.specs.Table.{Pair, boxes, size, In}
+use Rattle.table.specs.Words.{boxCount, pairCount, sizeAt, pairAt, pairNext, pairsAt, tableOf, Accepted, BoxStands, PairStands, Ahead}
+use Rattle.table.specs.Answers.{Counted}
+use Rattle.table.proofs.Words.{accepted-fine, accepted-parts, table-counts, box-stands, pairs-ahead, pairs-turn, pairs-last}
 
 pub table-boxes : (ws : List ℕ) → Accepted ws → boxes (tableOf ws) ≡ boxCount ws
 table-boxes ws A = table-counts ws (accepted-fine ws (tableOf ws) A .0) .0
@@ -33,6 +35,38 @@ accepted-box ws b A h = box-stands ws b (accepted-parts ws A .sizes) h
 
 pub accepted-ahead : (ws : List ℕ) → Accepted ws → Ahead ws (pairCount ws) (boxCount ws + 2)
 accepted-ahead ws A = let p = accepted-parts ws A in pairs-ahead ws (pairCount ws) (boxCount ws + 2) (p .sizes) (p .each)
+
+-- ---- a loop over the pairs: where it starts, and a sum over the pairs ahead
+
+pub record Start (ws : List ℕ) (c : Counts) : Type 0 where
+  pub boxes : c .boxes ≡ boxCount ws
+  pub pairs : c .pairs ≡ pairCount ws
+  pub few-boxes : boxCount ws ≤ 64
+  pub few-pairs : pairCount ws ≤ 256
+  pub ahead : Ahead ws (c .pairs) (c .boxes + 2)
+
+pub counted-start : (ws : List ℕ) (c : Counts) → Counted ws c → Start ws c
+counted-start ws c C =
+    let n = C .boxes ∙ table-boxes ws (C .table) in
+    let p = C .pairs ∙ table-count ws (C .table) in
+    let parts = accepted-parts ws (C .table) in
+    record {
+      boxes = n;
+      pairs = p;
+      few-boxes = parts .boxes .range .1;
+      few-pairs = parts .pairs .range .1;
+      ahead = rw (p, n) (accepted-ahead ws (C .table));
+    }
+
+-- the sum of f over the k pairs from a cursor on
+abbrev pub sumAhead : List ℕ → (Pair → ℕ) → ℕ → ℕ → ℕ
+sumAhead ws f k at = sumOf f (pairsAt ws k at)
+
+pub sum-turn : (ws : List ℕ) (f : Pair → ℕ) (p k at : ℕ) → k < p → sumAhead ws f (p - k) at ≡ f (pairAt ws at) + sumAhead ws f (p - (k + 1)) (pairNext ws at)
+sum-turn ws f p k at h = ap (sumOf f) (pairs-turn ws p k at h)
+
+pub sum-last : (ws : List ℕ) (f : Pair → ℕ) (p k at : ℕ) → p - k ≡ 0 → sumAhead ws f (p - k) at ≡ 0
+sum-last ws f p k at e = ap (sumOf f) (pairs-last ws p k at e)
 
 -- ---- a pair by its words
 

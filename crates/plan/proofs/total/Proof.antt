@@ -1,8 +1,8 @@
 -- What is summed and what the pairs ahead are charged make up the cost.
-use Rattle.plan.proofs.Plans.{counted-start, Owed, owed-all, owed-turn, owed-none, charge-light}
-use Rattle.plan.specs.Plan.{cost}
+use Rattle.plan.proofs.Plans.{cost-all, charge-light}
+use Rattle.plan.specs.Plan.{charge, cost}
 use Rattle.reader.specs.declared.PairHead.{PairHead}
-use Rattle.table.proofs.Tables.{accepted-ahead}
+use Rattle.table.proofs.Tables.{counted-start, sumAhead, sum-turn, sum-last}
 use Rattle.table.proofs.Words.{ahead-turn}
 use Rattle.table.specs.Words.{pairNext, tableOf, Ahead}
 use Prim.Native.Nat.{_+_, _-_, _*_, _≤_}
@@ -18,7 +18,7 @@ Inv-loop words plan p sum₀ at₀ k₀ sum at k =
     (k ≤ p)
     × (p ≤ 256)
     × Ahead words (p - k) at
-    × (sum + Owed words plan (p - k) at ≡ cost (tableOf words) plan)
+    × (sum + sumAhead words (charge plan) (p - k) at ≡ cost (tableOf words) plan)
     × (sum ≤ 1000000 * k)
 
 abbrev μ-loop : tie.MeasureT-loop
@@ -37,8 +37,8 @@ loop-holds c =
     let b = counted-start ws (s .args .counts) (s .pre .0) in (
       omega arith,
       omega (arith, b .pairs, b .few-pairs),
-      rw (sub-zero, b .pairs, b .boxes) (accepted-ahead ws (s .pre .0 .table)),
-      rw (sub-zero, zero-add, b .pairs, b .boxes) (sym (owed-all ws (s .args .plan .now))),
+      rw sub-zero (b .ahead),
+      rw (sub-zero, zero-add, b .pairs, b .boxes) (sym (cost-all ws (s .args .plan .now))),
       omega arith,
     )
 
@@ -83,7 +83,7 @@ loop-again c =
     let turn = ahead-turn ws (s .args .counts .pairs) (l .loop .k) (l .loop .at) (t .loop-test .taken) (l .loop .inv .2) in
     let next : c .before .pair-at .result .next ≡ pairNext ws (l .loop .at) = ap (λ (h : PairHead). h .next) (c .before .pair-at .ensures) in
     let light = charge-light ws plan (l .loop .at) (turn .0) in
-    let owed = owed-turn ws plan (s .args .counts .pairs) (l .loop .k) (l .loop .at) (t .loop-test .taken) in (
+    let owed = sum-turn ws (charge plan) (s .args .counts .pairs) (l .loop .k) (l .loop .at) (t .loop-test .taken) in (
       omega (arith, t .loop-test .taken),
       l .loop .inv .1,
       rw next (turn .1),
@@ -96,7 +96,7 @@ returns c =
     let l = c .before in
     let s = l .before .before .before .before in
     let ws = s .args .words .now in
-    omega (arith, l .loop .inv .3, owed-none ws (s .args .plan .now) (s .args .counts .pairs) (l .loop .k) (l .loop .at) (omega arith))
+    omega (arith, l .loop .inv .3, sum-last ws (charge (s .args .plan .now)) (s .args .counts .pairs) (l .loop .k) (l .loop .at) (omega arith))
 
 pub total-spec : {M : Type 1} → statement M
 total-spec =

@@ -1,0 +1,3 @@
+pub mod Values
+pub mod Ends
+pub mod Texts

@@ -1,0 +1,53 @@
+-- The answers with the exact lengths and the scratch lengths: 8 for an unknown encoding, then the table's refusal.
+use Prim.Native.Nat.{ℕ}
+use mathlib.Core.List.{List, [], _∷_}
+use Rattle.refusal.specs.declared.Refusal.{Refusal}
+use Rattle.refusal.specs.declared.Refusal.the-variants.{Choice}
+use Rattle.refusal.specs.Refusals.{Says, gives, refusalSays}
+use Rattle.table.specs.Table.{Table}
+use Rattle.table.specs.Words.{Outcome, refused, accepted}
+use Rattle.clause.specs.declared.Encoding.{Encoding}
+use Rattle.clause.specs.declared.Picked.{Picked}
+use Rattle.clause.specs.declared.Picked.the-variants.{Known, Unknown}
+use Rattle.clause.specs.Ends.{one, two}
+use Rattle.clause.specs.Numbers.{variables}
+use Rattle.clause.specs.Lengths.{clauseCount, literalCount, entryCount, scratchLength, top}
+use Rattle.measure.specs.declared.Lengths.{Lengths}
+use Rattle.measure.specs.declared.Scratch.{Scratch}
+use Rattle.measure.specs.declared.Measured.{Measured}
+use Rattle.measure.specs.declared.Needed.{Needed}
+
+-- an answer over an encoding and a judged table: `good` where both are
+abbrev pub over : {A : Type 0} → Picked → Outcome → (Refusal → A) → (Encoding → Table → A) → A
+over Unknown o bad good = bad Choice
+over (Known e) (refused f) bad good = bad f
+over (Known e) (accepted t) bad good = good e t
+
+abbrev pub lengthsFor : Encoding → Table → Lengths
+lengthsFor e t =
+    record {
+      variables = variables t (e .hard) (e .side);
+      clauses = clauseCount (e .hard) (e .side) t;
+      literals = literalCount (e .hard) (e .side) t;
+      entries = entryCount (e .hard) (e .side) t;
+      top = top t;
+    }
+
+abbrev pub scratchFor : Encoding → Table → Scratch
+scratchFor e t = record { first = scratchLength (e .side) one t; second = scratchLength (e .side) two t }
+
+abbrev pub measuredOf : Picked → Outcome → Measured
+measuredOf p o = over p o Measured.Refused (λ e t. Measured.Lengths (lengthsFor e t))
+
+abbrev pub neededOf : Picked → Outcome → Needed
+neededOf p o = over p o Needed.Refused (λ e t. Needed.Scratch (scratchFor e t))
+
+-- success gives variables, clauses, literals without and with closing zeros, and the top
+abbrev pub measuredSays : Measured → Says
+measuredSays (Measured.Refused f) = refusalSays f
+measuredSays (Measured.Lengths l) = gives (l .variables ∷ l .clauses ∷ l .literals ∷ l .entries ∷ l .top ∷ [])
+
+-- success gives the two scratch lengths
+abbrev pub neededSays : Needed → Says
+neededSays (Needed.Refused f) = refusalSays f
+neededSays (Needed.Scratch s) = gives (s .first ∷ s .second ∷ [])
