@@ -288,7 +288,8 @@ module _ (ν : Reading) (x r : ℕ → ℕ) where
             (λ u. rw (C j (omega arith) (omega arith), lt-leb j a u));
         low = here 1 true (ν (r 2)) (omega arith) (omega arith) (le-leb 1 a l) (sym (C 2 (omega arith) (omega arith)));
         mid = λ j p q.
-            here j (ν (r j)) (ν (r (suc j))) (omega arith) (omega arith) (sym (C j (omega arith) (omega arith))) (sym (C (suc j) (omega arith) (omega arith)));
+            here j (ν (r j)) (ν (r (suc j))) (omega arith) (omega arith) (sym (C j (omega arith) (omega arith))) (sym
+            (C (suc j) (omega arith) (omega arith)));
         high = here top (ν (r top)) false (omega arith) (omega arith) (sym (C top (omega arith) (omega arith))) (lt-leb (suc top) a (omega arith))
             ∙ and-true (ν (r top));
       })

@@ -10,7 +10,8 @@ use Rattle.lists.specs.Lists.{count, those, sumOf, Each}
 use Rattle.lists.proofs.Truth.{test}
 use Rattle.lists.proofs.Lists.{flat-append, sum-append, sum-map, sum-flat}
 use Rattle.lists.proofs.Blocks.{length-count}
-use Rattle.lists.proofs.Sums.{every-each, each-append, each-flat, each-map, sum-same, sum-constant, sum-plus, sum-most, run-most, one-most, those-length, length-flat}
+use Rattle.lists.proofs.Sums.{every-each, each-append, each-flat, each-map, sum-same, sum-constant, sum-plus, sum-most, run-most, one-most}
+use Rattle.lists.proofs.Sums.{those-length, length-flat}
 use Rattle.table.specs.Table.{Table, Pair, size}
 use Rattle.clause.specs.declared.Hard.{Hard}
 use Rattle.clause.specs.declared.Hard.the-variants.{Standard, Regular}

@@ -50,7 +50,8 @@ sum-only f s zero a l h g = absurd (omega arith)
 sum-only f s (suc n) a l h g =
     same s a
     (λ q. rw q (ap (λ (k : ℕ). f a + k) (sum-none f (suc a) n (λ j u v. g j (omega arith) (omega arith) (λ z. omega arith))) ∙ add-zero (f a)))
-    (λ q. ap₂ _+_ (g s (omega arith) (omega arith) q) (sum-only f (suc s) n a (omega arith) (omega arith) (λ j u v. g j (omega arith) (omega arith))) ∙ zero-add (f a))
+    (λ q. ap₂ _+_ (g s (omega arith) (omega arith) q)
+    (sum-only f (suc s) n a (omega arith) (omega arith) (λ j u v. g j (omega arith) (omega arith))) ∙ zero-add (f a))
 
 -- a test fails on the run but at one number
 pub any-only : (f : ℕ → Bool) (s n b : ℕ) → s ≤ b → b < s + n → ((j : ℕ) → s ≤ j → j < s + n → j ≢ b → f j ≡ false) → any f (count s n) ≡ f b
@@ -62,7 +63,8 @@ any-only f s n b l h g =
 
 pub count-snoc : (s n : ℕ) → count s (suc n) ≡ count s n ++ ((s + n) ∷ [])
 count-snoc s zero = ap (λ (k : ℕ). k ∷ []) (sym (add-zero s))
-count-snoc s (suc n) = let z : suc s + n ≡ s + suc n = omega arith in ap (λ (l : List ℕ). s ∷ l) (count-snoc (suc s) n ∙ ap (λ (k : ℕ). count (suc s) n ++ (k ∷ [])) z)
+count-snoc s (suc n) =
+    let z : suc s + n ≡ s + suc n = omega arith in ap (λ (l : List ℕ). s ∷ l) (count-snoc (suc s) n ∙ ap (λ (k : ℕ). count (suc s) n ++ (k ∷ [])) z)
 
 pub flat-snoc : {B : Type 0} (g : ℕ → List B) (s n : ℕ) → flatMap g (count s (suc n)) ≡ flatMap g (count s n) ++ g (s + n)
 unfolding flatMap

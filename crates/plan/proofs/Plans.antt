@@ -129,7 +129,8 @@ charge-by ws plan at o e = rw (← e) (flip o)
     flip false = refl
 
 pub charged-by : (ws plan : List ℕ) (at : ℕ) (pair : PairHead) (a b : ℕ) (o : Bool)
-    → pair ≡ headAt ws at → a ≡ nth plan (pair .first) → b ≡ nth plan (pair .second) → o ≡ allowed (pairAt ws at) a b → charge plan (pairAt ws at) ≡ cond o 0 (pair .weight)
+    → pair ≡ headAt ws at → a ≡ nth plan (pair .first) → b ≡ nth plan (pair .second) → o ≡ allowed (pairAt ws at) a b
+    → charge plan (pairAt ws at) ≡ cond o 0 (pair .weight)
 charged-by ws plan at pair a b o e p q r =
     let first = p ∙ ap (λ (h : PairHead). nth plan (h .first)) e in
     let second = q ∙ ap (λ (h : PairHead). nth plan (h .second)) e in

@@ -18,7 +18,9 @@ use Rattle.refusal.specs.declared.Refusal.the-variants.{Missing, Extra, Count, 
 use Rattle.table.specs.declared.Got.{Got}
 use Rattle.table.specs.declared.Got.the-variants.{Value}
 use Rattle.table.specs.Table.{Pair, Table, In, boxes}
-use Rattle.table.specs.Words.{boxCount, pairCount, sizeAt, pairNext, pairsEnd, pairAt, pairsAt, tableOf, rangeFault, maskFault, sizeFault, sizesFault, masksFault, partnersFault, pairFault, pairsFault, bodyFault, firstFault, settled, judged, refused, accepted, Accepted, BoxStands, PairStands, Ahead}
+use Rattle.table.specs.Words.{boxCount, pairCount, sizeAt, pairNext, pairsEnd, pairAt, pairsAt, tableOf, rangeFault, maskFault, sizeFault}
+use Rattle.table.specs.Words.{sizesFault, masksFault, partnersFault, pairFault, pairsFault, bodyFault, firstFault, settled, judged, refused}
+use Rattle.table.specs.Words.{accepted, Accepted, BoxStands, PairStands, Ahead}
 use Rattle.table.specs.declared.Checked.{Checked}
 use Rattle.table.specs.Answers.{gotOf, checkedOf, checkedWith, bodyOf}
 use Rattle.table.proofs.Answers.{got-value}
@@ -61,7 +63,8 @@ mask-none ws m at e =
 pub box-stands : (ws : List ℕ) (b : ℕ) → sizesFault ws (boxCount ws) 2 ≡ none → In 1 (boxCount ws) b → BoxStands ws b
 box-stands ws b e (l, h) =
     let k : 2 + (b - 1) ≡ b + 1 = omega arith in
-    let r = range-none ws (b + 1) 1 16 (Domain (b + 1)) (subst (λ (j : ℕ). sizeFault ws j ≡ none) k (first-each (sizeFault ws) (boxCount ws) 2 (b - 1) e (omega arith))) in
+    let r = range-none ws (b + 1) 1 16 (Domain (b + 1)) (subst (λ (j : ℕ). sizeFault ws j ≡ none) k
+    (first-each (sizeFault ws) (boxCount ws) 2 (b - 1) e (omega arith))) in
     record { number = (l, h); inside = r .inside; values = r .range }
 
 pub sizes-inside : (ws : List ℕ) → 1 ≤ boxCount ws → sizesFault ws (boxCount ws) 2 ≡ none → boxCount ws + 2 ≤ length ws

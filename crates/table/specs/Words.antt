@@ -80,11 +80,15 @@ partnersFault ws n at =
     then rangeFault ws (at + 1) 1 n (Partner (at + 1))
     then unless (not (eqb (getD ws (at + 1) 0) (getD ws at 0))) (Partner (at + 1))
 
+-- the masks of the pair at `at`: one for each value of the first box, of the second box's values
+abbrev pub rowsFault : List ℕ → ℕ → Option Refusal
+rowsFault ws at = masksFault ws (sizeAt ws (getD ws (at + 1) 0)) (sizeAt ws (getD ws at 0)) (at + 3)
+
 unfoldable pub pairFault : List ℕ → ℕ → ℕ → Option Refusal
 pairFault ws n at =
     partnersFault ws n at
     then rangeFault ws (at + 2) 1 1000000 (Weight (at + 2))
-    then masksFault ws (sizeAt ws (getD ws (at + 1) 0)) (sizeAt ws (getD ws at 0)) (at + 3)
+    then rowsFault ws at
 
 abbrev pub pairsFault : List ℕ → ℕ → ℕ → ℕ → Option Refusal
 pairsFault ws n k at = firstOf (pairFault ws n) (pairNext ws) k at

@@ -14,6 +14,7 @@ ghost use Rattle.table.specs.Words.{
   sizesFault,
   masksFault,
   partnersFault,
+  rowsFault,
   pairFault,
   pairsFault,
   judged,
@@ -149,11 +150,7 @@ pub fn size(words: &[u32], b: u32) -> u32
 // The masks of the pair at word `at`, whose boxes and weight stand: where the next pair begins.
 fn rows(words: &[u32], at: usize) -> Step
     requires { ⌜ (at + 2 < length (now words)) × BoxStands (now words) (getD (now words) at 0) × BoxStands (now words) (getD (now words) (at + 1) 0) ⌝ }
-    ensures { λ r.
-        ⌜ r
-        ≡ stepOf
-        (masksFault (now (words .entry)) (sizeAt (now (words .entry)) (getD (now (words .entry)) (at + 1) 0)) (sizeAt (now (words .entry)) (getD (now (words .entry)) at 0)) (at + 3))
-        (pairNext (now (words .entry)) at) ⌝ }
+    ensures { λ r. ⌜ r ≡ stepOf (rowsFault (now (words .entry)) at) (pairNext (now (words .entry)) at) ⌝ }
 {
     let first = lists::word(words, at);
     let second = lists::word(words, at + 1);

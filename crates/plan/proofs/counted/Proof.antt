@@ -19,8 +19,11 @@ enum-told c = search needs
 total-requires : tie.Need-total-requires
 total-requires c κs =
     let s = c .before .before .before .before .before in
-    let t = tableOf (s .args .words .now) in
-    (s .pre, fine-plan t (s .args .plan .now) (judged-fine (planFault t (s .args .plan .now)) (sym (c .before .before .judge .ensures) ∙ c .enum-told .given .1)))
+    let t = tableOf (s .args .words .now) in (
+      s .pre,
+      fine-plan t (s .args .plan .now) (judged-fine (planFault t (s .args .plan .now))
+          (sym (c .before .before .judge .ensures) ∙ c .enum-told .given .1)),
+    )
 
 returns : tie.Need-returns
 returns c =

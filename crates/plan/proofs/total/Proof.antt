@@ -65,7 +65,15 @@ add-sum c =
     let l = t .before in
     let s = l .before .before .before .before in
     let S = ahead-turn (s .args .words .now) (s .args .counts .pairs) (l .loop .k) (l .loop .at) (t .loop-test .taken) (l .loop .inv .2) .0 in
-    omega (arith, c .charged .ensures, charge-light (s .args .words .now) (s .args .plan .now) (l .loop .at) S, l .loop .inv .1, l .loop .inv .4, t .loop-test .taken)
+    omega (
+      arith,
+      c .charged .ensures,
+      charge-light (s .args .words .now) (s .args .plan .now)
+          (l .loop .at) S,
+      l .loop .inv .1,
+      l .loop .inv .4,
+      t .loop-test .taken,
+    )
 
 add-k : tie.Need-add-k Inv-loop μ-loop
 add-k c = search needs

@@ -31,7 +31,8 @@ returns-2 c =
     let w = c .before in
     let v = w .before .before in
     let z = size-word (a .words .now) (a .i) (s .pre .1) in
-    rw (value-high (tableOf (a .words .now)) (a .plan .now) (a .i) (omega (arith, v .word .ensures, w .before .if1 .left)) (omega (arith, z, v .word .ensures, w .word2 .ensures, c .if2 .taken)))
+    rw (value-high (tableOf (a .words .now)) (a .plan .now) (a .i) (omega (arith, v .word .ensures, w .before .if1 .left))
+    (omega (arith, z, v .word .ensures, w .word2 .ensures, c .if2 .taken)))
 
 returns-3 : tie.Need-returns-3
 returns-3 c =

@@ -14,7 +14,8 @@ sizes-fine : (c : tie.After-known-told2) → let a = c .before .before .before .
 sizes-fine c =
     let s = c .before .before .before in
     let a = s .before .before .before .args in
-    rw (s .before .wide .ensures) at (step-next (sizesFault (a .words .now) (s .before .wide .result) 2) _ (sym (s .sizes .ensures) ∙ c .before .from .given .1))
+    rw (s .before .wide .ensures) at (step-next (sizesFault (a .words .now) (s .before .wide .result) 2) _
+    (sym (s .sizes .ensures) ∙ c .before .from .given .1))
 
 pairs-fine : (c : tie.After-known-told4) → let a = c .before .before .before .before .before .before .before .before .before .before .args in
     (pairsFault (a .words .now) (a .n) (a .p) (a .n + 2) ≡ none) × (pairsEnd (a .words .now) (a .p) (a .n + 2) ≡ c .before .end .given .0 .0)
@@ -63,7 +64,8 @@ unfolding bodyFault
 returns-2 c =
     let s = c .before .before .before in
     let a = s .before .before .before .args in
-    rw (rw (s .before .wide .ensures) at (step-stop (sizesFault (a .words .now) (s .before .wide .result) 2) _ (sym (s .sizes .ensures) ∙ c .before .f .given .1)))
+    rw (rw (s .before .wide .ensures) at (step-stop (sizesFault (a .words .now) (s .before .wide .result) 2) _
+    (sym (s .sizes .ensures) ∙ c .before .f .given .1)))
 
 returns-3 : tie.Need-returns-3
 unfolding bodyFault

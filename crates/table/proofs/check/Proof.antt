@@ -42,7 +42,8 @@ returns : tie.Need-returns
 unfolding firstFault
 returns c =
     let s = c .before .before .before in
-    sym (checked-fault _ _ (rw (got-wrong (rangeFault (s .before .before .args .words .now) 0 1 64 (Count 0)) _ (sym (s .ranged .ensures) ∙ c .before .f .given .1))))
+    sym (checked-fault _ _ (rw (got-wrong (rangeFault (s .before .before .args .words .now) 0 1 64 (Count 0)) _
+    (sym (s .ranged .ensures) ∙ c .before .f .given .1))))
 
 returns-2 : tie.Need-returns-2
 unfolding firstFault

@@ -32,7 +32,8 @@ returns : tie.Need-returns
 unfolding partnersFault
 returns c =
     let a = c .before .before .before .before .before .args in
-    rw (got-wrong (rangeFault (a .words .now) (a .at) 1 (a .n) (Partner (a .at))) _ (sym (c .before .before .before .ranged .ensures) ∙ c .before .f .given .1))
+    rw (got-wrong (rangeFault (a .words .now) (a .at) 1 (a .n) (Partner (a .at))) _
+    (sym (c .before .before .before .ranged .ensures) ∙ c .before .f .given .1))
 
 add-after : tie.Need-add-after
 add-after c = omega (arith, first-in c .inside)
@@ -53,7 +54,8 @@ returns-2 c =
     let a = p .before .before .before .before .before .args in
     rw (
       first-in p .fine,
-      got-wrong (rangeFault (a .words .now) (a .at + 1) 1 (a .n) (Partner (a .at + 1))) _ (sym (c .before .before .before .ranged2 .ensures) ∙ c .before .f2 .given .1),
+      got-wrong (rangeFault (a .words .now) (a .at + 1) 1 (a .n) (Partner (a .at + 1))) _ (sym
+          (c .before .before .before .ranged2 .ensures) ∙ c .before .f2 .given .1),
     )
 
 returns-3 : tie.Need-returns-3

@@ -8,12 +8,14 @@ use borrow.Author.Needs.{needs}
 use Rattle.table.proofs.rows.Statement.{statement}
 use Rattle.table.proofs.rows.Tie as tie
 
-first-size : (c : tie.After-size) → let s = c .before .before .before .before in c .size .result ≡ sizeAt (s .args .words .now) (getD (s .args .words .now) (s .args .at) 0)
+first-size : (c : tie.After-size) → let s = c .before .before .before .before in
+    c .size .result ≡ sizeAt (s .args .words .now) (getD (s .args .words .now) (s .args .at) 0)
 first-size c = c .size .ensures ∙ ap (sizeAt (c .before .before .before .before .args .words .now)) (c .before .before .word .ensures)
 
 second-size : (c : tie.After-size2) → let s = c .before .before .before .before .before .before in
     c .size2 .result ≡ sizeAt (s .args .words .now) (getD (s .args .words .now) (s .args .at + 1) 0)
-second-size c = c .size2 .ensures ∙ ap (sizeAt (c .before .before .before .before .before .before .args .words .now)) (c .before .before .before .word2 .ensures)
+second-size c =
+    c .size2 .ensures ∙ ap (sizeAt (c .before .before .before .before .before .before .args .words .now)) (c .before .before .before .word2 .ensures)
 
 word-requires : tie.Need-word-requires
 word-requires c κs = search needs
@@ -38,8 +40,11 @@ add-masks c = search needs
 
 masks-requires : tie.Need-masks-requires
 masks-requires c κs =
-    let s = c .before .before .before .before .before .before in
-    (omega (arith, second-size c, s .pre .2 .values .1), omega (arith, c .before .wide .ensures, first-size (c .before .before), s .pre .0, s .pre .1 .values .1, s .good))
+    let s = c .before .before .before .before .before .before in (
+      omega (arith, second-size c, s .pre .2 .values .1),
+      omega
+          (arith, c .before .wide .ensures, first-size (c .before .before), s .pre .0, s .pre .1 .values .1, s .good),
+    )
 
 returns : tie.Need-returns
 unfolding pairNext
