@@ -9,11 +9,13 @@ use lib.Seq.{take-suc, take-length}
 use Rattle.lists.specs.Lists.{sumOf, before, Each}
 use Rattle.lists.proofs.Lists.{sum-append}
 use Rattle.table.specs.Table.{Table, boxes, size, In, Sound}
-use Rattle.table.specs.Words.{boxCount, sizeAt, tableOf, Accepted}
+use Rattle.table.specs.Words.{boxCount, pairCount, sizeAt, tableOf, Accepted}
 use Rattle.table.proofs.Words.{accepted-parts}
-use Rattle.table.proofs.Tables.{table-boxes, table-size, accepted-box}
+use Rattle.table.proofs.Tables.{table-boxes, table-count, table-size, accepted-box}
+use Rattle.clause.specs.declared.Hard.the-variants.{Regular}
+use Rattle.clause.specs.declared.Side.the-variants.{Support}
 use Rattle.table.proofs.Round.{accepted-sound}
-use Rattle.clause.specs.Numbers.{values, valueBase, stepBase}
+use Rattle.clause.specs.Numbers.{values, valueBase, stepBase, thresholds, switches}
 
 -- ---- sums of a list's first entries
 
@@ -81,3 +83,17 @@ module _ (ws : List ℕ) (A : Accepted ws) where
 
   pub step-small : (b : ℕ) → In 1 (boxCount ws + 1) b → stepBase (tableOf ws) b ≤ 2048
   step-small b h = omega (arith, step-base b h, values-small, base-small b h)
+
+  -- ---- thresholds and switches
+
+  pub thresholds-less : thresholds (tableOf ws) Regular + boxCount ws ≡ values (tableOf ws)
+  unfolding thresholds values
+  thresholds-less =
+      let n = table-boxes ws A in
+      let k = length-map (tableOf ws .sizes) pred in
+      let all = steps-less (tableOf ws .sizes) (length (tableOf ws .sizes)) sizes-fine (omega arith) in
+      rw (← n) (rw (take-length (tableOf ws .sizes)) at (rw (ap (λ (j : ℕ). take j (map pred (tableOf ws .sizes))) (sym k) ∙ take-length (map pred (tableOf ws .sizes))) at all))
+
+  pub switches-support : switches (tableOf ws) Support ≡ pairCount ws
+  unfolding switches
+  switches-support = table-count ws A
