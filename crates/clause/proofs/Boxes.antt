@@ -7,7 +7,7 @@ use mathlib.Core.Bool.{Bool, true, false, not, _&&_, _||_, Bool·beq, or-false, 
 use lib.Dec.{eqb, leb}
 use borrow.Author.Tests.{eq-eqb, ne-eqb, le-leb, lt-leb, leb-true, eqb-true}
 use Rattle.lists.specs.Lists.{count, all, any, sumOf}
-use Rattle.lists.proofs.Truth.{and-left, and-right, both, test, clash, order, same}
+use Rattle.lists.proofs.Truth.{and-left, and-right, both, test, clash, order, same, beq-exact}
 use Rattle.lists.proofs.Lists.{all-append, all-map, all-flat, any-map}
 use Rattle.lists.proofs.Runs.{all-at, at-all, any-at, at-any, sum-only}
 use Rattle.clause.specs.declared.Hard.{Hard}
@@ -133,18 +133,6 @@ highest-says ν x r m = go (ν (x m)) (ν (r m))
     go false true = refl
     go false false = refl
 
-beq-eq : (p q : Bool) → Bool·beq p q ≡ true → p ≡ q
-beq-eq true true e = refl
-beq-eq true false e = sym e
-beq-eq false true e = e
-beq-eq false false e = refl
-
-eq-beq : (p q : Bool) → p ≡ q → Bool·beq p q ≡ true
-eq-beq true true e = refl
-eq-beq true false e = sym e
-eq-beq false true e = e
-eq-beq false false e = refl
-
 -- at least j and not at least j + 1 is j
 only-at : (j a : ℕ) → (leb j a && not (leb (suc j) a)) ≡ eqb j a
 only-at j a =
@@ -230,9 +218,9 @@ module _ (ν : Reading) (x r : ℕ → ℕ) where
       four (all (chainOk ν x r) (count 3 k)) (lowOk ν x r) (all (midOk ν x r) (count 2 k)) (highOk ν x r (suc (suc k))) (sym (regular-says ν x r k) ∙ e) in
       record {
         chain = all-at (chainOk ν x r) 3 k c;
-        low = beq-eq (ν (x 1)) (not (ν (r 2))) l;
-        mid = λ j p q. beq-eq (ν (x j)) (ν (r j) && not (ν (r (suc j)))) (all-at (midOk ν x r) 2 k m j p q);
-        high = beq-eq (ν (x (suc (suc k)))) (ν (r (suc (suc k)))) h;
+        low = beq-exact (ν (x 1)) (not (ν (r 2))) .0 l;
+        mid = λ j p q. beq-exact (ν (x j)) (ν (r j) && not (ν (r (suc j)))) .0 (all-at (midOk ν x r) 2 k m j p q);
+        high = beq-exact (ν (x (suc (suc k)))) (ν (r (suc (suc k)))) .0 h;
       }
 
   unlinks : (k : ℕ) → Links ν x r k → allTrue ν (regularBox x r (suc (suc k))) ≡ true
@@ -240,9 +228,9 @@ module _ (ν : Reading) (x r : ℕ → ℕ) where
   unlinks k L =
       regular-says ν x r k
       ∙ both (at-all (chainOk ν x r) 3 k (L .chain))
-      (both (eq-beq (ν (x 1)) (not (ν (r 2))) (L .low))
-      (both (at-all (midOk ν x r) 2 k (λ j l h. eq-beq (ν (x j)) (ν (r j) && not (ν (r (suc j)))) (L .mid j l h)))
-      (eq-beq (ν (x (suc (suc k)))) (ν (r (suc (suc k)))) (L .high))))
+      (both (beq-exact (ν (x 1)) (not (ν (r 2))) .1 (L .low))
+      (both (at-all (midOk ν x r) 2 k (λ j l h. beq-exact (ν (x j)) (ν (r j) && not (ν (r (suc j)))) .1 (L .mid j l h)))
+      (beq-exact (ν (x (suc (suc k)))) (ν (r (suc (suc k)))) .1 (L .high))))
 
   pub regular-holds : (m : ℕ) → allTrue ν (regularBox x r m) ≡ true → (a : ℕ) × Holds ν x m a × Climbs ν r m a
   unfolding regularBox

@@ -6,6 +6,7 @@ pub mod Sums
 pub mod Parts
 pub mod Firsts
 pub mod Foremost
+pub mod Search
 pub mod Stores
 pub mod Bits
 pub mod Decimal

@@ -4,8 +4,8 @@ use mathlib.Core.List.{List, [], _∷_, _++_}
 use Prim.Native.Nat.{ℕ, suc, _+_, _≤_}
 use native.Mathlib.Nat.{add-zero, add-suc, suc-add}
 use native.Mathlib.Omega.{arith}
-use lib.ListN.{length, set, length-append}
-use lib.Seq.{sets, set-out, length-sets}
+use lib.ListN.{length, set, take, length-append}
+use lib.Seq.{sets, sets-eq, set-out, length-sets, take-at}
 use Rattle.lists.specs.Stores.{Wrote, Owes}
 
 module _ {A : Type 0} where
@@ -52,3 +52,7 @@ module _ {A : Type 0} where
   pub owes-none : {old all out rest : List A} {start at : ℕ} → Owes old start all out at rest → rest ≡ [] → Wrote old start all at out
   owes-none {out = out} {at = at} o e =
       record { next = omega (arith, o .ends, ap length e); list = ap (sets out at) (sym e) ∙ o .same }
+
+-- what is stored at the start of a list that has room for it, the list begins with
+pub sets-begins : {A : Type 0} (vs old : List A) (n : ℕ) → length vs ≡ n → n ≤ length old → take n (sets old 0 vs) ≡ vs
+sets-begins vs old n e h = rw (sets-eq vs old 0 (omega arith)) (take-at vs _ n e)

@@ -1,10 +1,10 @@
 -- Sums and lengths of lists whose entries are all alike, or bounded; `Each` over ++, map and flatMap.
 use mathlib.Core.Path.{_≡_, refl, ap, _∙_}
-use Prim.Native.Nat.{ℕ, _+_, _*_, _≤_}
+use Prim.Native.Nat.{ℕ, zero, suc, _+_, _*_, _≤_}
 use native.Mathlib.Omega.{arith}
 use mathlib.Core.Bool.{Bool, true, false, cond}
 use mathlib.Core.List.{List, [], _∷_, _++_, map, flatMap}
-use lib.ListN.{length, length-append}
+use lib.ListN.{length, replicate, length-append}
 use Rattle.lists.specs.Lists.{count, those, sumOf, Each}
 use Rattle.lists.proofs.Truth.{test}
 use Rattle.lists.proofs.Blocks.{length-count}
@@ -59,3 +59,8 @@ run-most f k s n g = rw (length-count s n) at (sum-most f k (count s n) (every-e
 pub one-most : (o : Bool) → cond o 0 1 ≤ 1
 one-most true = omega arith
 one-most false = omega arith
+
+-- what holds of an entry holds of each, where it is repeated
+pub each-replicate : {A : Type 0} (P : A → Type 0) (a : A) → P a → (n : ℕ) → Each P (replicate n a)
+each-replicate P a p zero = tt
+each-replicate P a p (suc n) = (p, each-replicate P a p n)

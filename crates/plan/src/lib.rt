@@ -83,8 +83,8 @@ fn charged(words: &[u32], at: usize, pair: PairHead, plan: &[u32]) -> u64
     weight as u64
 }
 
-// The sum over the pairs, which begin after the sizes.
-fn total(words: &[u32], counts: Counts, plan: &[u32]) -> u64
+// The cost of a plan over an accepted table: the sum over the pairs, which begin after the sizes.
+pub fn total(words: &[u32], counts: Counts, plan: &[u32]) -> u64
     requires { ⌜ Counted (now words) counts × IsPlan (tableOf (now words)) (now plan) ⌝ }
     ensures { λ r. ⌜ r ≡ cost (tableOf (now (words .entry))) (now (plan .entry)) ⌝ }
 {

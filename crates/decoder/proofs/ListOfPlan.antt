@@ -1,0 +1,159 @@
+-- The list made from a plan, read row by row: of each box it holds the plan's value, and the thresholds say so. Hence it is accepted with that plan.
+use mathlib.Core.Path.{_≡_, refl, sym, ap, ap₂, _∙_}
+use Prim.Native.Nat.{ℕ, _+_, _-_, _≤_, pred}
+use native.Mathlib.Nat.{add-assoc}
+use native.Mathlib.Omega.{arith}
+use mathlib.Core.Bool.{Bool, true, false}
+use mathlib.Core.List.{List, _++_, map, flatMap}
+use lib.ListN.{length, getD, replicate, length-append, length-map, length-replicate, getD-replicate, List·getD-map}
+use lib.Seq.{getD-append-add}
+use lib.Dec.{eqb, leb}
+use Rattle.lists.specs.Lists.{count, nth, before, Each}
+use Rattle.lists.proofs.Blocks.{length-count, run-at, Long, flat-length, flat-at}
+use Rattle.lists.proofs.Sums.{each-append, each-flat, each-map}
+use Rattle.table.specs.Table.{Table, boxes, size, In, Sound}
+use Rattle.plan.specs.Plan.{IsPlan}
+use Rattle.clause.specs.declared.Hard.{Hard}
+use Rattle.clause.specs.declared.Hard.the-variants.{Standard, Regular}
+use Rattle.clause.specs.declared.Side.{Side}
+use Rattle.clause.specs.Clause.{reads}
+use Rattle.clause.specs.Numbers.{values, steps, thresholds, switches, valueBase, stepBase, x, r, c, variables}
+use Rattle.clause.proofs.Boxes.{Steps}
+use Rattle.decoder.specs.Lists.{Bit, Accepts, planOf, bit, valueRow, stepRow, valueBits, stepBits, made}
+use Rattle.lists.proofs.Sums.{each-replicate}
+use Rattle.decoder.proofs.Pays.{Fits}
+use Rattle.decoder.proofs.PlanOfList.{holds-ok, boxes-hard, plan-is}
+
+bit-reads : (o : Bool) → eqb (bit o) 1 ≡ o
+bit-reads true = refl
+bit-reads false = refl
+
+bit-small : (o : Bool) → Bit (bit o)
+bit-small true = omega arith
+bit-small false = omega arith
+
+row-bits : (f : ℕ → Bool) (js : List ℕ) → Each Bit (map (λ j. bit (f j)) js)
+row-bits f js = each-map Bit (λ j. bit (f j)) (λ j. bit-small (f j)) js
+
+module _ (t : Table) (plan : List ℕ) where
+  -- ---- its rows
+
+  abbrev valueRowOf : ℕ → List ℕ
+  valueRowOf b = valueRow (size t b) (nth plan b)
+
+  abbrev stepRowOf : ℕ → List ℕ
+  stepRowOf b = stepRow (size t b) (nth plan b)
+
+  value-long : Long (t .sizes) valueRowOf 1
+  unfolding valueRow
+  value-long b u v = length-map (count 1 (size t b)) (λ j. bit (eqb j (nth plan b))) ∙ length-count 1 (size t b)
+
+  -- a box has one threshold less than values
+  step-size : (b : ℕ) → getD (steps t) (b - 1) 0 ≡ pred (size t b)
+  step-size b = List·getD-map pred (t .sizes) (b - 1) 0
+
+  step-long : Long (steps t) stepRowOf 1
+  unfolding stepRow
+  step-long b u v =
+      length-map (count 2 (pred (size t b))) (λ j. bit (leb j (nth plan b))) ∙ length-count 2 (pred (size t b)) ∙ sym (step-size b)
+
+  -- the rows of thresholds, counted by their own list of lengths
+  step-rows : stepBits Regular t plan ≡ flatMap stepRowOf (count 1 (length (steps t)))
+  unfolding stepBits
+  step-rows = ap (λ (n : ℕ). flatMap stepRowOf (count 1 n)) (sym (length-map (t .sizes) pred))
+
+  -- ---- its length
+
+  values-long : length (valueBits t plan) ≡ values t
+  unfolding valueBits values
+  values-long = flat-length (t .sizes) valueRowOf 1 value-long
+
+  steps-long : (h : Hard) → length (stepBits h t plan) ≡ thresholds t h
+  unfolding stepBits thresholds
+  steps-long Standard = refl
+  steps-long Regular = ap length step-rows ∙ flat-length (steps t) stepRowOf 1 step-long
+
+  pub made-long : (h : Hard) (s : Side) → length (made h s t plan) ≡ variables t h s
+  unfolding made variables
+  made-long h s =
+      length-append (valueBits t plan) (stepBits h t plan ++ replicate (switches t s) 0)
+      ∙ ap₂ _+_ values-long (length-append (stepBits h t plan) (replicate (switches t s) 0) ∙ ap₂ _+_ (steps-long h) (length-replicate (switches t s) 0))
+      ∙ sym (add-assoc (values t) (thresholds t h) (switches t s))
+
+  -- ---- its entries are 0 or 1
+
+  value-bits : Each Bit (valueBits t plan)
+  unfolding valueBits valueRow
+  value-bits =
+      each-flat Bit valueRowOf (λ b. row-bits (λ j. eqb j (nth plan b)) (count 1 (size t b))) (count 1 (boxes t))
+
+  step-bits : (h : Hard) → Each Bit (stepBits h t plan)
+  unfolding stepBits stepRow
+  step-bits Standard = tt
+  step-bits Regular =
+      each-flat Bit stepRowOf (λ b. row-bits (λ j. leb j (nth plan b)) (count 2 (pred (size t b)))) (count 1 (boxes t))
+
+  made-bits : (h : Hard) (s : Side) → Each Bit (made h s t plan)
+  unfolding made
+  made-bits h s =
+      each-append Bit (valueBits t plan) (stepBits h t plan ++ replicate (switches t s) 0) value-bits
+      (each-append Bit (stepBits h t plan) (replicate (switches t s) 0) (step-bits h) (each-replicate Bit 0 (omega arith) (switches t s)))
+
+  -- ---- what it reads
+
+  made-value : (h : Hard) (s : Side) (b j : ℕ) → In 1 (boxes t) b → 1 ≤ j → j ≤ size t b → reads (made h s t plan) (x t b j) ≡ eqb j (nth plan b)
+  unfolding made valueBits valueBase before valueRow
+  made-value h s b j (u, v) l g =
+      let index : before (t .sizes) b + j - 1 ≡ before (t .sizes) b + (j - 1) = omega arith in
+      ap (λ (n : ℕ). eqb n 1)
+      (ap (λ (i : ℕ). getD (made h s t plan) i 0) index
+      ∙ flat-at (t .sizes) valueRowOf 1 (stepBits h t plan ++ replicate (switches t s) 0) b (j - 1) 0 value-long u (omega arith) (omega arith)
+      ∙ run-at (λ j. bit (eqb j (nth plan b))) 1 (size t b) j 0 l (omega arith))
+      ∙ bit-reads (eqb j (nth plan b))
+
+  made-step : (s : Side) (b j : ℕ) → In 1 (boxes t) b → 2 ≤ j → j ≤ size t b → reads (made Regular s t plan) (r t b j) ≡ leb j (nth plan b)
+  unfolding made stepBase before stepRow
+  made-step s b j (u, v) l g =
+      let rest : List ℕ = replicate (switches t s) 0 in
+      let index : values t + before (steps t) b + (j - 1) - 1 ≡ length (valueBits t plan) + (before (steps t) b + (j - 2)) = rw values-long (omega arith) in
+      let many : length (steps t) ≡ boxes t = length-map (t .sizes) pred in
+      let wide = step-size b in
+      ap (λ (n : ℕ). eqb n 1)
+      (ap (λ (i : ℕ). getD (made Regular s t plan) i 0) index
+      ∙ getD-append-add (valueBits t plan) (stepBits Regular t plan ++ rest) (before (steps t) b + (j - 2)) 0
+      ∙ ap (λ (k : List ℕ). getD (k ++ rest) (before (steps t) b + (j - 2)) 0) step-rows
+      ∙ flat-at (steps t) stepRowOf 1 rest b (j - 2) 0 step-long u (omega arith) (omega arith)
+      ∙ run-at (λ j. bit (leb j (nth plan b))) 2 (pred (size t b)) j 0 l (omega arith))
+      ∙ bit-reads (leb j (nth plan b))
+
+  pub made-switch : (h : Hard) (s : Side) (k : ℕ) → In 1 (switches t s) k → nth (made h s t plan) (c t h k) ≡ 0
+  unfolding made c
+  made-switch h s k (u, v) =
+      let rest : List ℕ = replicate (switches t s) 0 in
+      let index : values t + thresholds t h + k - 1 ≡ length (valueBits t plan) + (length (stepBits h t plan) + (k - 1)) =
+      rw (values-long, steps-long h) (omega arith) in
+      ap (λ (i : ℕ). getD (made h s t plan) i 0) index
+      ∙ getD-append-add (valueBits t plan) (stepBits h t plan ++ rest) (length (stepBits h t plan) + (k - 1)) 0
+      ∙ getD-append-add (stepBits h t plan) rest (k - 1) 0
+      ∙ getD-replicate (switches t s) (k - 1) 0 0 (omega arith)
+
+  -- ---- it is accepted, and its plan is the plan
+
+  made-fits : (h : Hard) (s : Side) → IsPlan t plan → Fits (reads (made h s t plan)) t plan
+  made-fits h s P b i = let (l, g) = P .within b (i .0) (i .1) in record { low = l; high = g; at = λ j p q. made-value h s b j i p q }
+
+  made-steps : (h : Hard) (s : Side) (b : ℕ) → In 1 (boxes t) b → Steps h (reads (made h s t plan)) (stepBase t b) (size t b) (nth plan b)
+  made-steps Standard s b i = tt
+  made-steps Regular s b i = λ j l g. made-step s b j i l g
+
+  pub made-accepted : (h : Hard) (s : Side) → Sound t → IsPlan t plan → Accepts h s t (made h s t plan)
+  made-accepted h s S P =
+      let l = made h s t plan in
+      record {
+        long = made-long h s;
+        bits = made-bits h s;
+        hard = boxes-hard h s t l S (λ b i. holds-ok h t l b (nth plan b) (made-fits h s P b i) (made-steps h s b i));
+      }
+
+  pub made-plan : (h : Hard) (s : Side) → IsPlan t plan → planOf t (made h s t plan) ≡ plan
+  made-plan h s P = plan-is t (made h s t plan) plan (P .long) (made-fits h s P)

@@ -1,0 +1,118 @@
+-- What is wrong with a list first; the answers of the decoder and of the list maker, and what their lent buffers hold after.
+use Prim.Native.Nat.{ℕ, _+_}
+use mathlib.Core.Path.{_≡_}
+use mathlib.Core.Bool.{true}
+use mathlib.Core.Option.{Option, none, some}
+use mathlib.Core.List.{List, [], _∷_}
+use lib.ListN.{length, getD}
+use lib.Seq.{sets}
+use lib.Dec.{leb, eqb}
+use Rattle.lists.specs.Firsts.{_then_, unless, firstOf, Lowest}
+use Rattle.refusal.specs.declared.Refusal.{Refusal}
+use Rattle.refusal.specs.declared.Refusal.the-variants.{Choice, Room, Length, Entry, Broken}
+use Rattle.refusal.specs.Refusals.{Says, gives, refusalSays}
+use Rattle.table.specs.Table.{Table, boxes}
+use Rattle.table.specs.Words.{Outcome, refused, accepted}
+use Rattle.plan.specs.Plan.{cost, planFault}
+use Rattle.clause.specs.declared.Hard.{Hard}
+use Rattle.clause.specs.declared.Side.{Side}
+use Rattle.clause.specs.declared.Encoding.{Encoding}
+use Rattle.clause.specs.declared.Picked.{Picked}
+use Rattle.clause.specs.declared.Picked.the-variants.{Known, Unknown}
+use Rattle.clause.specs.Numbers.{variables}
+use Rattle.decoder.specs.declared.Decoded.{Decoded}
+use Rattle.decoder.specs.declared.Made.{Made}
+use Rattle.decoder.specs.Lists.{Bit, boxOk, planOf, made}
+
+-- ---- what is wrong with a list first
+
+-- the entry at index i is 0 or 1
+unfoldable pub entryFault : List ℕ → ℕ → Option Refusal
+entryFault l i = unless (leb (getD l i 0) 1) (Entry i)
+
+abbrev pub entriesFault : List ℕ → Option Refusal
+entriesFault l = firstOf (entryFault l) (λ i. i + 1) (length l) 0
+
+-- box b has no false hard clause
+unfoldable pub boxFault : Hard → Table → List ℕ → ℕ → Option Refusal
+boxFault h t l b = unless (boxOk h t l b) (Broken b)
+
+abbrev pub boxesFault : Hard → Table → List ℕ → Option Refusal
+boxesFault h t l = firstOf (boxFault h t l) (λ b. b + 1) (boxes t) 1
+
+-- 10 for a list of the wrong length, then 11 at the lowest index of an entry that is not 0 or 1, then 12 at the lowest box with a false hard clause
+unfoldable pub listFault : Hard → Side → Table → List ℕ → Option Refusal
+listFault h s t l =
+    unless (eqb (length l) (variables t h s)) (Length (variables t h s)) then entriesFault l then boxesFault h t l
+
+-- the lowest index of an entry that is not 0 or 1
+abbrev pub LowestEntry : List ℕ → ℕ → Type 0
+LowestEntry l i = Lowest (λ j. Bit (getD l j 0)) 0 (length l) i
+
+-- the lowest box one of whose hard clauses is false
+abbrev pub LowestBroken : Hard → Table → List ℕ → ℕ → Type 0
+LowestBroken h t l b = Lowest (λ c. boxOk h t l c ≡ true) 1 (boxes t) b
+
+-- ---- what a refusal leaves, and success
+
+-- 9 if a lent buffer of this room does not hold what is needed
+abbrev pub roomFault : (needed room : ℕ) → Option Refusal
+roomFault needed room = unless (leb needed room) (Room needed)
+
+-- a lent buffer after: a refusal writes nothing, and else vs stands in it from its start on
+abbrev pub bufferWith : Option Refusal → List ℕ → List ℕ → List ℕ
+bufferWith none old vs = sets old 0 vs
+bufferWith (some f) old vs = old
+
+-- ---- the decoder: the lent plan has `room` entries
+
+-- over an accepted table: the list's faults, then 9 for the plan
+unfoldable pub decodeFault : Encoding → Table → List ℕ → ℕ → Option Refusal
+decodeFault e t l room = listFault (e .hard) (e .side) t l then roomFault (boxes t) room
+
+abbrev pub decodedWith : Option Refusal → ℕ → Decoded
+decodedWith none c = Decoded.Cost c
+decodedWith (some f) c = Decoded.Refused f
+
+-- 8, then the table's refusals, then those over an accepted table; else the cost
+abbrev pub decodedOf : Picked → Outcome → List ℕ → (room : ℕ) → Decoded
+decodedOf Unknown o l room = Decoded.Refused Choice
+decodedOf (Known e) (refused f) l room = Decoded.Refused f
+decodedOf (Known e) (accepted t) l room = decodedWith (decodeFault e t l room) (cost t (planOf t l))
+
+-- what the lent plan holds after, if it held `old`
+abbrev pub planAfter : Picked → Outcome → List ℕ → (old : List ℕ) → List ℕ
+planAfter Unknown o l old = old
+planAfter (Known e) (refused f) l old = old
+planAfter (Known e) (accepted t) l old = bufferWith (decodeFault e t l (length old)) old (planOf t l)
+
+-- success gives the cost
+abbrev pub decodedSays : Decoded → Says
+decodedSays (Decoded.Refused f) = refusalSays f
+decodedSays (Decoded.Cost c) = gives (c ∷ [])
+
+-- ---- the list maker: the lent list has `room` entries
+
+-- over an accepted table: the plan's faults, then 9 for the list
+unfoldable pub makeFault : Encoding → Table → List ℕ → ℕ → Option Refusal
+makeFault e t plan room = planFault t plan then roomFault (variables t (e .hard) (e .side)) room
+
+abbrev pub madeWith : Option Refusal → ℕ → Made
+madeWith none n = Made.Written n
+madeWith (some f) n = Made.Refused f
+
+abbrev pub madeOf : Picked → Outcome → List ℕ → (room : ℕ) → Made
+madeOf Unknown o plan room = Made.Refused Choice
+madeOf (Known e) (refused f) plan room = Made.Refused f
+madeOf (Known e) (accepted t) plan room = madeWith (makeFault e t plan room) (variables t (e .hard) (e .side))
+
+-- what the lent list holds after, if it held `old`
+abbrev pub listAfter : Picked → Outcome → List ℕ → (old : List ℕ) → List ℕ
+listAfter Unknown o plan old = old
+listAfter (Known e) (refused f) plan old = old
+listAfter (Known e) (accepted t) plan old = bufferWith (makeFault e t plan (length old)) old (made (e .hard) (e .side) t plan)
+
+-- success gives the length of the list
+abbrev pub madeSays : Made → Says
+madeSays (Made.Refused f) = refusalSays f
+madeSays (Made.Written n) = gives (n ∷ [])
