@@ -1,19 +1,22 @@
--- What follows of an end that is seen well, and its support counted.
+-- An end that is seen well has boxes of 1 to 16 values; its support counted; a value's clause by whether its support is full.
 use mathlib.Core.Path.{_≡_, refl, sym, ap, _∙_}
 use mathlib.Core.Bool.{Bool, true, false, cond}
-use mathlib.Core.List.{List, [], _∷_, map}
-use Prim.Native.Nat.{ℕ, suc, _+_, _-_, _≤_, _<_}
+use mathlib.Core.List.{List, [], _∷_, _++_, flatMap}
+use Prim.Native.Nat.{ℕ, suc, _+_, _-_, _*_, _≤_, _<_}
 use native.Mathlib.Omega.{arith}
-use lib.ListN.{length, getD, length-map}
+use lib.ListN.{length, getD, length-append, length-map}
 use lib.Dec.{eqb}
+use borrow.Author.Tests.{eq-eqb, ne-eqb}
 use Rattle.lists.specs.Lists.{count, those}
 use Rattle.lists.proofs.Truth.{test}
 use Rattle.lists.proofs.Blocks.{length-count}
 use Rattle.table.specs.Table.{In}
 use Rattle.table.specs.Words.{sizeAt, PairStands}
-use Rattle.clause.specs.Ends.{End, supports, full}
+use Rattle.clause.specs.Clause.{minus, Clause, literalsIn}
+use Rattle.clause.specs.Numbers.{valueFrom}
+use Rattle.clause.specs.Ends.{End, supports, full, supportAt, supportClauses}
 use Rattle.ends.specs.declared.Seen.{Seen}
-use Rattle.ends.specs.Seen.{ownBox, otherBox, SeenWell}
+use Rattle.ends.specs.Seen.{SeenWell}
 use Rattle.ends.proofs.Values.{count-turn, count-last, count-all, those-few, all-those}
 
 box-few : {ws : List ℕ} {at : ℕ} → PairStands ws at → (t : Bool) → In 1 16 (sizeAt ws (cond t (getD ws (at + 1) 0) (getD ws at 0)))
@@ -65,3 +68,46 @@ supports-few e j = omega (arith, supports-length e j, those-few (e .ok j) (count
 pub full-counted : (e : End) (j : ℕ) → full e j ≡ eqb (length (supports e j)) (e .theirs)
 unfolding full
 full-counted e j = all-those (e .ok j) (count 1 (e .theirs)) ∙ rw (supports-length, length-count)
+
+-- by a number n that was counted
+module _ (e : End) (j : ℕ) {n : ℕ} (counted : n ≡ length (supports e j)) where
+  pub full-yes : n ≡ e .theirs → full e j ≡ true
+  full-yes h = full-counted e j ∙ eq-eqb (length (supports e j)) (e .theirs) (sym counted ∙ h)
+
+  pub full-no : (n ≡ e .theirs → ⊥) → full e j ≡ false
+  full-no h = full-counted e j ∙ ne-eqb (length (supports e j)) (e .theirs) (λ q. h (counted ∙ q))
+
+-- ---- a value's clause
+
+module _ (e : End) (tail : Clause) (j : ℕ) where
+  pub clause-none : full e j ≡ true → supportAt e tail j ≡ []
+  unfolding supportAt
+  clause-none p = rw p
+
+  pub clause-one : full e j ≡ false → supportAt e tail j ≡ (minus (valueFrom (e .own) j) ∷ (supports e j ++ tail)) ∷ []
+  unfolding supportAt
+  clause-one p = rw p
+
+-- ---- a tail makes each clause longer, and no clause more
+
+tails-clauses : (e : End) (tail : Clause) (l : List ℕ) → length (flatMap (supportAt e tail) l) ≡ length (flatMap (supportAt e []) l)
+unfolding flatMap supportAt
+tails-clauses e tail [] = refl
+tails-clauses e tail (j ∷ l) = test (full e j) (λ p. rw p (tails-clauses e tail l)) (λ p. rw p (ap suc (tails-clauses e tail l)))
+
+pub tail-clauses : (e : End) (tail : Clause) → length (supportClauses e tail) ≡ length (supportClauses e [])
+unfolding supportClauses
+tail-clauses e tail = tails-clauses e tail (count 1 (e .mine))
+
+tails-literals : (e : End) (tail : Clause) (l : List ℕ)
+    → literalsIn (flatMap (supportAt e tail) l) ≡ literalsIn (flatMap (supportAt e []) l) + length (flatMap (supportAt e []) l) * length tail
+unfolding flatMap supportAt literalsIn
+tails-literals e tail [] = omega arith
+tails-literals e tail (j ∷ l) =
+    test (full e j) (λ p. rw p (tails-literals e tail l))
+    (λ p. rw p (omega (arith, tails-literals e tail l, length-append (supports e j) tail, length-append (supports e j) [])))
+
+pub tail-literals : (e : End) (tail : Clause)
+    → literalsIn (supportClauses e tail) ≡ literalsIn (supportClauses e []) + length (supportClauses e []) * length tail
+unfolding supportClauses
+tail-literals e tail = tails-literals e tail (count 1 (e .mine))

@@ -1,3 +1,4 @@
 pub mod Values
 pub mod Ends
 pub mod Texts
+pub mod Boxes

@@ -1,11 +1,11 @@
 -- A loop over the values j, j + 1, .., m: one turn, the end, and all of them at the start. And a test counted over a list.
 use mathlib.Core.Path.{_≡_, refl, ap, _∙_}
-use mathlib.Core.Bool.{Bool, true, false, _&&_}
-use mathlib.Core.List.{List, [], _∷_}
+use mathlib.Core.Bool.{Bool}
+use mathlib.Core.List.{List, [], _∷_, _++_, flatMap}
 use Prim.Native.Nat.{ℕ, suc, _+_, _-_, _≤_, _<_}
 use native.Mathlib.Numerals.{add-one}
 use native.Mathlib.Omega.{arith}
-use lib.ListN.{length}
+use lib.ListN.{length, length-append}
 use lib.Dec.{eqb, eqb·suc-suc}
 use borrow.Author.Tests.{ne-eqb}
 use Rattle.lists.specs.Lists.{count, all, those}
@@ -19,6 +19,25 @@ count-last j m h = let k : m + 1 - j ≡ 0 = omega arith in rw k
 
 pub count-all : (m : ℕ) → count 1 (m + 1 - 1) ≡ count 1 m
 count-all m = let k : m + 1 - 1 ≡ m = omega arith in rw k
+
+-- what g gives for the values j, j + 1, .., m
+abbrev pub flatFrom : {A : Type 0} → (ℕ → List A) → ℕ → ℕ → List A
+flatFrom g m j = flatMap g (count j (m + 1 - j))
+
+module _ {A : Type 0} (g : ℕ → List A) (m : ℕ) where
+  pub flat-all : flatFrom g m 1 ≡ flatMap g (count 1 m)
+  flat-all = rw count-all
+
+  pub flat-turn : (j : ℕ) → j ≤ m → flatFrom g m j ≡ g j ++ flatFrom g m (j + 1)
+  unfolding flatMap
+  flat-turn j h = rw (count-turn j m h)
+
+  pub flat-none : (j : ℕ) → m < j → flatFrom g m j ≡ []
+  unfolding flatMap
+  flat-none j h = rw (count-last j m h)
+
+  pub length-turn : (j : ℕ) → j ≤ m → length (flatFrom g m j) ≡ length (g j) + length (flatFrom g m (j + 1))
+  length-turn j h = ap length (flat-turn j h) ∙ length-append (g j) (flatFrom g m (j + 1))
 
 module _ {A : Type 0} (f : A → Bool) where
   pub those-few : (l : List A) → length (those f l) ≤ length l

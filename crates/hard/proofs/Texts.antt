@@ -1,0 +1,112 @@
+-- What is written clause by clause, and what a loop over a run of numbers still owes.
+use mathlib.Core.Path.{_≡_, refl, ap, _∙_}
+use mathlib.Core.List.{List, [], _∷_, _++_, map, flatMap}
+use Prim.Native.Nat.{ℕ, zero, suc, _+_, _-_, _≤_, _<_}
+use native.Mathlib.Numerals.{add-one}
+use native.Mathlib.Omega.{arith}
+use lib.ListN.{length, length-append}
+use lib.IntN.{pos}
+use Rattle.lists.specs.Lists.{count}
+use Rattle.lists.specs.Stores.{Owes}
+use Rattle.lists.proofs.Lists.{flat-append}
+use Rattle.clause.specs.Clause.{plus, minus, Clause, closed, entriesOf}
+use Rattle.clause.specs.Numbers.{valueFrom, stepFrom}
+use Rattle.clause.specs.Hard.{oneOf, standardBox, chainAt, lowest, between, highest, regularBox}
+use Rattle.hard.specs.Writers.{apart, chain, allBetween}
+
+-- ---- general: the numbers from j to n - 1, as a loop goes through them
+
+pub run-turn : (n j : ℕ) → j < n → count j (n - j) ≡ j ∷ count (j + 1) (n - (j + 1))
+run-turn n j h = let e : n - j ≡ suc (n - (j + 1)) = omega arith in rw (e, add-one)
+
+pub run-end : (n j : ℕ) → n ≤ j → count j (n - j) ≡ []
+run-end n j h = let e : n - j ≡ 0 = omega arith in rw e
+
+-- the numbers after j, up to m itself
+pub run-start : (m j : ℕ) → count (suc j) (m - j) ≡ count (j + 1) (m + 1 - (j + 1))
+run-start m j = let e : m + 1 - (j + 1) ≡ m - j = omega arith in rw (e, add-one)
+
+-- ---- general: where the whole has room, what a loop stores next has
+
+pub room-part : {A : Type 0} {n : ℕ} {old all out rest : List A} {start at : ℕ} (vs ws : List A)
+    → Owes old start all out at rest → rest ≡ vs ++ ws → start + length all < n → at + length vs < n
+room-part vs ws o e h = omega (arith, o .ends, ap length e, length-append vs ws)
+
+-- ---- general: the texts of clauses, and of a loop over numbers that writes them
+
+pub text-append : (cs ds : List Clause) → entriesOf (cs ++ ds) ≡ entriesOf cs ++ entriesOf ds
+unfolding entriesOf
+text-append cs ds = flat-append closed cs ds
+
+-- a literal a turn
+module _ (x : ℕ → ℕ) (n j : ℕ) where
+  pub values-turn : j < n → closed (map (λ i. plus (x i)) (count j (n - j))) ≡ (pos (x j) ∷ []) ++ closed (map (λ i. plus (x i)) (count (j + 1) (n - (j + 1))))
+  values-turn h = rw (run-turn n j h)
+
+  pub values-end : n ≤ j → closed (map (λ i. plus (x i)) (count j (n - j))) ≡ (pos 0 ∷ []) ++ []
+  values-end h = rw (run-end n j h)
+
+-- a clause a turn
+module _ (f : ℕ → Clause) (n j : ℕ) where
+  pub text-turn : j < n → entriesOf (map f (count j (n - j))) ≡ closed (f j) ++ entriesOf (map f (count (j + 1) (n - (j + 1))))
+  unfolding entriesOf flatMap
+  text-turn h = rw (run-turn n j h)
+
+  pub text-end : n ≤ j → entriesOf (map f (count j (n - j))) ≡ []
+  unfolding entriesOf flatMap
+  text-end h = rw (run-end n j h)
+
+-- several clauses a turn
+module _ (g : ℕ → List Clause) (n j : ℕ) where
+  pub texts-turn : j < n → entriesOf (flatMap g (count j (n - j))) ≡ entriesOf (g j) ++ entriesOf (flatMap g (count (j + 1) (n - (j + 1))))
+  unfolding flatMap
+  texts-turn h = rw (run-turn n j h) (text-append (g j) _)
+
+  pub texts-end : n ≤ j → entriesOf (flatMap g (count j (n - j))) ≡ []
+  unfolding entriesOf flatMap
+  texts-end h = rw (run-end n j h)
+
+-- ---- a box, piece by piece
+
+module _ (x : ℕ → ℕ) (m : ℕ) where
+  pub standard-text : entriesOf (standardBox x m) ≡ closed (oneOf x m) ++ entriesOf (apart x m)
+  unfolding standardBox entriesOf flatMap
+  standard-text = refl
+
+  pub standard-size : length (entriesOf (standardBox x m)) ≡ length (closed (oneOf x m)) + length (entriesOf (apart x m))
+  standard-size = ap length standard-text ∙ length-append (closed (oneOf x m)) (entriesOf (apart x m))
+
+module _ (x r : ℕ → ℕ) where
+  -- one value: its variable alone, which is the clause of all values
+  pub single-text : (m : ℕ) → m ≡ 1 → entriesOf (regularBox x r m) ≡ closed (oneOf x m)
+  unfolding regularBox entriesOf flatMap
+  single-text m e = rw e
+
+  pub regular-text : (m : ℕ) → 2 ≤ m
+      → entriesOf (regularBox x r m)
+      ≡ entriesOf (chain r m) ++ (entriesOf (lowest x r) ++ (entriesOf (allBetween x r m) ++ entriesOf (highest x r m)))
+  unfolding regularBox
+  regular-text zero h = absurd (omega arith)
+  regular-text (suc zero) h = absurd (omega arith)
+  regular-text (suc (suc k)) h = let z : suc (suc k) - 2 ≡ k = omega arith in rw z (simp text-append)
+
+  pub regular-size : (m : ℕ) → 2 ≤ m
+      → length (entriesOf (regularBox x r m))
+      ≡ length (entriesOf (chain r m))
+      + (length (entriesOf (lowest x r)) + (length (entriesOf (allBetween x r m)) + length (entriesOf (highest x r m))))
+  regular-size m h = rw (regular-text m h) (simp length-append)
+
+-- the chain's turn, in the code's numbers
+pub chain-turn : (s n j : ℕ) → j < n
+    → entriesOf (map (chainAt (stepFrom s)) (count j (n - j)))
+    ≡ closed (minus (s + (j - 1)) ∷ plus (s + (j - 2)) ∷ []) ++ entriesOf (map (chainAt (stepFrom s)) (count (j + 1) (n - (j + 1))))
+unfolding chainAt
+chain-turn s n j h = let z : j - 1 - 1 ≡ j - 2 = omega arith in rw (← z) (text-turn (chainAt (stepFrom s)) n j h)
+
+-- the three clauses of a value between, in the code's numbers
+pub between-text : (v s j : ℕ)
+    → entriesOf (between (valueFrom v) (stepFrom s) j)
+    ≡ closed (minus (v + j) ∷ plus (s + (j - 1)) ∷ [])
+    ++ (closed (minus (v + j) ∷ minus (s + j) ∷ []) ++ closed (plus (v + j) ∷ minus (s + (j - 1)) ∷ plus (s + j) ∷ []))
+unfolding between entriesOf flatMap
+between-text v s j = let z : suc j - 1 ≡ j = omega arith in rw z
