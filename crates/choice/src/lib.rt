@@ -50,6 +50,7 @@ fn share(words: &[u32], seen: Seen, j: u32) -> EndTally
     }
 }
 
+// The tally of all values of the box that sees the pair.
 pub fn tally(words: &[u32], seen: Seen) -> EndTally
     requires { ⌜ SeenWell (now words) seen ⌝ }
     ensures { λ r. ⌜ r ≡ endTally (endOf (now (words .entry)) seen) ⌝ }

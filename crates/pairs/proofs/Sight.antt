@@ -12,6 +12,7 @@ use Rattle.reader.specs.Reader.{headAt}
 use Rattle.clause.specs.Numbers.{valueBase}
 use Rattle.clause.specs.Ends.{Which, one, two, end}
 use Rattle.numbers.proofs.Counted.{base-small}
+use Rattle.ends.specs.declared.Seen.{Seen}
 use Rattle.ends.specs.Seen.{endOf, SeenWell}
 use Rattle.pairs.specs.Pairs.{firstSeen, turnedOf, seenOf}
 
@@ -50,3 +51,11 @@ module _ (ws : List ℕ) (at : ℕ) where
         record { pair = S; mine = first-size; theirs = second-size; own = omega (arith, first-base); other = omega (arith, second-base) }
     seen-well two =
         record { pair = S; mine = second-size; theirs = first-size; own = omega (arith, second-base); other = omega (arith, first-base) }
+
+-- what a caller knows of an end that it was handed
+pub record Sees (ws : List ℕ) (at : ℕ) (w : Which) (seen : Seen) : Type 0 where
+  pub well : SeenWell ws seen
+  pub is : endOf ws seen ≡ end (tableOf ws) (pairAt ws at) w
+
+pub sees : (ws : List ℕ) (at : ℕ) (w : Which) (seen : Seen) → seen ≡ seenOf ws at w → Accepted ws → PairStands ws at → Sees ws at w seen
+sees ws at w seen e A S = record { well = rw e (seen-well ws at A S w); is = rw e (seen-end ws at w) }
