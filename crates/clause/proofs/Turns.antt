@@ -4,7 +4,7 @@ use mathlib.Core.List.{List, [], _∷_, _++_, flatMap, map, map-append}
 use Prim.Native.Nat.{ℕ, suc, _+_, _-_, _≤_, _<_}
 use native.Mathlib.Nat.{sub-zero}
 use native.Mathlib.Omega.{arith}
-use lib.ListN.{length, replicate, length-append, length-map}
+use lib.ListN.{length, replicate, length-append, length-map, replicate-append-replicate}
 use lib.IntN.{ℤ}
 use Rattle.lists.specs.Lists.{count}
 use Rattle.lists.proofs.Runs.{count-turn, count-end, count-all}
@@ -18,7 +18,7 @@ use Rattle.clause.specs.Clause.{Clause, Weighted, weigh, bare, entriesOf
 use Rattle.clause.specs.Hard.{boxClauses}
 use Rattle.clause.specs.List.{hardPart, pairClauses, softFrom, softPart, clauses}
 use Rattle.clause.specs.Lengths.{clauseCount, literalCount, entryCount}
-use Rattle.clause.proofs.Lengths.{entries-append, entries-weigh, weights-append, weights-weigh, literals-append, entries-length}
+use Rattle.clause.proofs.Lengths.{entriesOf-append, entries-append, entries-weigh, weights-append, weights-weigh, literals-append, entries-length}
 
 -- ---- box by box
 
@@ -70,6 +70,9 @@ bare-weigh w [] = refl
 bare-weigh w (c ∷ cs) = ap (λ (l : List Clause). c ∷ l) (bare-weigh w cs)
 
 -- what a weighed part adds to what follows it
+pub bare-part : (w : ℕ) (cs : List Clause) (us : List Weighted) → bare (weigh w cs ++ us) ≡ cs ++ bare us
+bare-part w cs us = bare-append (weigh w cs) us ∙ ap (λ (l : List Clause). l ++ bare us) (bare-weigh w cs)
+
 pub entries-part : (w : ℕ) (cs : List Clause) (us : List Weighted) → entries (weigh w cs ++ us) ≡ entriesOf cs ++ entries us
 entries-part w cs us = entries-append (weigh w cs) us ∙ ap (λ (l : List ℤ). l ++ entries us) (entries-weigh w cs)
 
@@ -81,7 +84,34 @@ length-part w cs us = length-append (weigh w cs) us ∙ ap (λ (n : ℕ). n + le
 
 pub literals-part : (w : ℕ) (cs : List Clause) (us : List Weighted) → literalsIn (bare (weigh w cs ++ us)) ≡ literalsIn cs + literalsIn (bare us)
 literals-part w cs us =
-    ap literalsIn (bare-append (weigh w cs) us ∙ ap (λ (l : List Clause). l ++ bare us) (bare-weigh w cs)) ∙ literals-append cs (bare us)
+    ap literalsIn (bare-part w cs us) ∙ literals-append cs (bare us)
+
+-- ---- a turn, as it is written and weighed
+
+module _ (h : Hard) (t : Table) (n b : ℕ) where
+  pub hard-text : b ≤ n → entriesOf (hardFrom h t n b) ≡ entriesOf (boxClauses h t b) ++ entriesOf (hardFrom h t n (b + 1))
+  hard-text l = ap entriesOf (hard-turn h t n b l) ∙ entriesOf-append (boxClauses h t b) (hardFrom h t n (b + 1))
+
+  pub hard-weights : b ≤ n
+      → replicate {A = ℕ} (length (hardFrom h t n b)) 0 ≡ replicate (length (boxClauses h t b)) 0 ++ replicate (length (hardFrom h t n (b + 1))) 0
+  hard-weights l =
+      let w : ℕ = 0 in
+      ap (λ (k : ℕ). replicate k w) (ap length (hard-turn h t n b l) ∙ length-append (boxClauses h t b) (hardFrom h t n (b + 1)))
+      ∙ sym (replicate-append-replicate (length (boxClauses h t b)) (length (hardFrom h t n (b + 1))) w)
+
+module _ (h : Hard) (s : Side) (ws : List ℕ) (p k at : ℕ) (l : k < p) where
+  pub bare-turn : bare (softAhead h s ws p k at) ≡ pairClauses h s (tableOf ws) (k + 1) (pairAt ws at) ++ bare (softAhead h s ws p (k + 1) (pairNext ws at))
+  bare-turn = ap bare (soft-turn h s ws p k at l) ∙ bare-part (pairAt ws at .weight) (pairClauses h s (tableOf ws) (k + 1) (pairAt ws at)) _
+
+  pub soft-text : entries (softAhead h s ws p k at)
+      ≡ entriesOf (pairClauses h s (tableOf ws) (k + 1) (pairAt ws at)) ++ entries (softAhead h s ws p (k + 1) (pairNext ws at))
+  soft-text = ap entries (soft-turn h s ws p k at l) ∙ entries-part (pairAt ws at .weight) (pairClauses h s (tableOf ws) (k + 1) (pairAt ws at)) _
+
+  pub soft-weights : weights (softAhead h s ws p k at)
+      ≡ replicate (length (pairClauses h s (tableOf ws) (k + 1) (pairAt ws at))) (pairAt ws at .weight) ++ weights (softAhead h s ws p (k + 1) (pairNext ws at))
+  soft-weights = ap weights (soft-turn h s ws p k at l) ∙ weights-part (pairAt ws at .weight) (pairClauses h s (tableOf ws) (k + 1) (pairAt ws at)) _
+
+-- ---- the whole
 
 module _ (h : Hard) (s : Side) (t : Table) where
   pub entries-clauses : entries (clauses h s t) ≡ entriesOf (hardPart h t) ++ entries (softPart h s t)

@@ -1,13 +1,31 @@
 -- What the loops count: the weights of the pairs ahead, and the parts of the clause list.
-use mathlib.Core.Path.{_≡_, ap}
-use mathlib.Core.List.{List}
-use Prim.Native.Nat.{ℕ, _+_, _≤_}
+use mathlib.Core.Path.{_≡_, refl, sym, ap, ap₂, _∙_}
+use mathlib.Core.List.{List, [], _∷_, _++_}
+use lib.ListN.{length, length-append, length-map}
+use Prim.Native.Nat.{ℕ, suc, _+_, _≤_}
 use native.Mathlib.Omega.{arith}
 use Rattle.lists.specs.Lists.{sumOf}
-use Rattle.table.specs.Table.{Pair}
-use Rattle.table.specs.Words.{boxCount, pairCount, pairAt, tableOf, PairStands}
-use Rattle.table.proofs.Tables.{table-pairs, sumAhead, pair-weight}
-use Rattle.clause.specs.Lengths.{top}
+use Rattle.table.specs.Table.{Pair, Table}
+use Rattle.table.specs.Words.{boxCount, pairCount, sizeAt, pairAt, tableOf, Accepted, BoxStands, PairStands}
+use Rattle.table.proofs.Tables.{table-pairs, table-size, sumAhead, pair-weight}
+use Rattle.clause.specs.declared.Hard.{Hard}
+use Rattle.clause.specs.declared.Hard.the-variants.{Standard}
+use Rattle.clause.specs.declared.Encoding.{Encoding}
+use Rattle.clause.specs.declared.Side.{Side}
+use Rattle.clause.specs.Clause.{plus, minus, Clause, bare, literalsIn}
+use Rattle.clause.specs.Numbers.{valueBase, stepBase, values, thresholds, switches, c, variables}
+use Rattle.clause.specs.Soft.{soft}
+use Rattle.clause.specs.List.{hardPart, pairClauses, softFrom, softPart}
+use Rattle.clause.specs.Hard.{boxWith, boxClauses}
+use Rattle.clause.specs.Lengths.{clauseCount, literalCount, entryCount, top}
+use Rattle.clause.proofs.Lengths.{literals-none, literals-append, entries-length, Room, box-room}
+use Rattle.hard.specs.declared.Tally.{Tally}
+use Rattle.hard.specs.Tallies.{tallyOf, boxTally}
+use Rattle.clause.proofs.Turns.{length-part, literals-part, count-clauses, literals-clauses, entries-count}
+use Rattle.hard.proofs.Tallies.{tally-any}
+use Rattle.pairs.proofs.Sums as sums
+use Rattle.measure.specs.declared.Lengths.{Lengths}
+use Rattle.measure.specs.Measures.{lengthsFor}
 
 abbrev pub weightOf : Pair → ℕ
 weightOf p = p .weight
@@ -18,3 +36,102 @@ top-all ws = ap (λ (ps : List Pair). 1 + sumOf weightOf ps) (table-pairs ws)
 
 pub weight-light : (ws : List ℕ) (at : ℕ) → PairStands ws at → pairAt ws at .weight ≤ 1000000
 weight-light ws at S = rw (pair-weight ws at) (S .weight .1)
+
+-- ---- a part after the other, counted
+
+-- with what the rest comes to, the sum so far makes up what all comes to
+pub record Makes (sum : Tally) (rest all : List Clause) : Type 0 where
+  pub clauses : sum .clauses + length rest ≡ length all
+  pub literals : sum .literals + literalsIn rest ≡ literalsIn all
+
+abbrev pub plusTally : Tally → Tally → Tally
+plusTally a b = record { clauses = a .clauses + b .clauses; literals = a .literals + b .literals }
+
+pub makes-all : {all start : List Clause} → start ≡ all → Makes (record { clauses = 0; literals = 0 }) start all
+makes-all {all} {start} e = record { clauses = omega (arith, ap length e); literals = omega (arith, ap literalsIn e) }
+
+pub makes-turn : {sum part : Tally} {rest all next : List Clause} (cs : List Clause) → part ≡ tallyOf cs → rest ≡ cs ++ next → Makes sum rest all
+    → Makes (plusTally sum part) next all
+makes-turn {next = next} cs p e M =
+    let n = ap (λ (t : Tally). t .clauses) p in
+    let l = ap (λ (t : Tally). t .literals) p in
+    record {
+      clauses = omega (arith, n, M .clauses, ap length e, length-append cs next);
+      literals = omega (arith, l, M .literals, ap literalsIn e, literals-append cs next);
+    }
+
+pub makes-none : {sum : Tally} {rest all : List Clause} → rest ≡ [] → Makes sum rest all → sum ≡ tallyOf all
+makes-none {sum} {rest} {all} e M =
+    let n : sum .clauses ≡ length all = omega (arith, M .clauses, ap length e) in
+    let l : sum .literals ≡ literalsIn all = omega (arith, M .literals, ap literalsIn e, literals-none) in
+    λ i. record { clauses = n i; literals = l i }
+
+-- ---- boxes and pairs
+
+module _ (h : Hard) (ws : List ℕ) (A : Accepted ws) (b : ℕ) (B : BoxStands ws b) where
+  box-is : boxClauses h (tableOf ws) b ≡ boxWith h (valueBase (tableOf ws) b) (stepBase (tableOf ws) b) (sizeAt ws b)
+  unfolding boxClauses
+  box-is = ap (boxWith h (valueBase (tableOf ws) b) (stepBase (tableOf ws) b)) (table-size ws b (B .number .0) (B .number .1))
+
+  pub box-tally-is : boxTally h (sizeAt ws b) ≡ tallyOf (boxClauses h (tableOf ws) b)
+  box-tally-is = sym (tally-any h _ _ (sizeAt ws b)) ∙ ap tallyOf (sym box-is)
+
+  pub box-few : Room (boxClauses h (tableOf ws) b) 128 400
+  box-few = rw box-is (box-room h _ _ (sizeAt ws b) (B .values .1))
+
+-- a part that is few is few in clauses and literals
+pub few-part : {n k : ℕ} {part : Tally} (cs : List Clause) → part ≡ tallyOf cs → Room cs n k → (part .clauses ≤ n) × (part .literals ≤ k)
+few-part cs p R =
+    let a = ap (λ (t : Tally). t .clauses) p in
+    let b = ap (λ (t : Tally). t .literals) p in
+    (omega (arith, a, R .clauses), omega (arith, b, R .entries, entries-length cs))
+
+-- ---- the soft part comes to the same with either hard part: which number c_k has does not matter
+
+module _ (h g : Hard) (s : Side) (t : Table) where
+  pair-any : (k : ℕ) (p : Pair) → tallyOf (pairClauses h s t k p) ≡ tallyOf (pairClauses g s t k p)
+  unfolding pairClauses soft
+  pair-any k p = sums.tally-any s _ _ (plus (c t h k)) (minus (c t h k)) ∙ sym (sums.tally-any s _ _ (plus (c t g k)) (minus (c t g k)))
+
+  soft-from : (k : ℕ) (ps : List Pair)
+      → (length (softFrom h s t k ps) ≡ length (softFrom g s t k ps)) × (literalsIn (bare (softFrom h s t k ps)) ≡ literalsIn (bare (softFrom g s t k ps)))
+  unfolding softFrom
+  soft-from k [] = (refl, refl)
+  soft-from k (p ∷ ps) =
+      let w = p .weight in
+      let cs = pairClauses h s t k p in
+      let ds = pairClauses g s t k p in
+      let us = softFrom h s t (suc k) ps in
+      let vs = softFrom g s t (suc k) ps in
+      let e = pair-any k p in
+      let r = soft-from (suc k) ps in
+      let n : length cs ≡ length ds = ap (λ (u : Tally). u .clauses) e in
+      let l : literalsIn cs ≡ literalsIn ds = ap (λ (u : Tally). u .literals) e in (
+        length-part w cs us ∙ ap₂ _+_ n (r .0) ∙ sym (length-part w ds vs),
+        literals-part w cs us ∙ ap₂ _+_ l (r .1) ∙ sym (literals-part w ds vs),
+      )
+
+  pub soft-any : (length (softPart h s t) ≡ length (softPart g s t)) × (literalsIn (bare (softPart h s t)) ≡ literalsIn (bare (softPart g s t)))
+  unfolding softPart
+  soft-any = soft-from 1 (t .pairs)
+
+-- ---- all lengths of a table, from its parts
+
+bare-length : (h : Hard) (s : Side) (t : Table) → length (bare (softPart h s t)) ≡ length (softPart h s t)
+bare-length h s t = length-map (softPart h s t) _
+
+pub lengths-made : (e : Encoding) (t : Table) (v k c l : ℕ) (hard soft : Tally)
+    → v ≡ values t + thresholds t (e .hard) → k ≡ switches t (e .side)
+    → hard ≡ tallyOf (hardPart (e .hard) t) → soft ≡ tallyOf (bare (softPart Standard (e .side) t))
+    → c ≡ hard .clauses + soft .clauses → l ≡ hard .literals + soft .literals → (top-is : ℕ) → top-is ≡ top t
+    → _≡_ {A = Lengths} (record { variables = v + k; clauses = c; literals = l; entries = c + l; top = top-is }) (lengthsFor e t)
+unfolding variables
+lengths-made e t v k c l hard soft p q x y m n w z =
+    let any = soft-any (e .hard) Standard (e .side) t in
+    let clauses-are : c ≡ clauseCount (e .hard) (e .side) t =
+    omega (arith, m, ap (λ (u : Tally). u .clauses) x, ap (λ (u : Tally). u .clauses) y, any .0, count-clauses (e .hard) (e .side) t, bare-length Standard (e .side) t) in
+    let literals-are : l ≡ literalCount (e .hard) (e .side) t =
+    omega (arith, n, ap (λ (u : Tally). u .literals) x, ap (λ (u : Tally). u .literals) y, any .1, literals-clauses (e .hard) (e .side) t) in
+    let entries-are : c + l ≡ entryCount (e .hard) (e .side) t = omega (arith, clauses-are, literals-are, entries-count (e .hard) (e .side) t) in
+    let variables-are : v + k ≡ variables t (e .hard) (e .side) = ap₂ _+_ p q in
+    λ i. record { variables = variables-are i; clauses = clauses-are i; literals = literals-are i; entries = entries-are i; top = z i }

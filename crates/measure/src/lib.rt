@@ -3,6 +3,8 @@ use clause::Encoding;
 use clause::Hard;
 use clause::Picked;
 use clause::Side;
+use ends::Seen;
+use hard::Tally;
 use refusal::Refusal;
 use table::Checked;
 use table::Counts;
@@ -10,7 +12,14 @@ ghost use mathlib.Core.Path.{_≡_};
 ghost use Rattle.table.specs.Words.{tableOf, judged};
 ghost use Rattle.table.specs.Answers.{Counted};
 ghost use Rattle.clause.specs.Encodings.{pickedOf};
+ghost use Prim.Native.Nat.{_+_, _≤_};
+ghost use Rattle.table.specs.Words.{boxCount, pairNext, Accepted, PairStands};
+ghost use Rattle.clause.specs.declared.Hard.the-variants.{Standard};
+ghost use Rattle.clause.specs.Clause.{bare};
+ghost use Rattle.clause.specs.Ends.{one, two};
+ghost use Rattle.clause.specs.List.{hardPart, softPart};
 ghost use Rattle.clause.specs.Lengths.{top};
+ghost use Rattle.hard.specs.Tallies.{tallyOf};
 ghost use Rattle.measure.specs.Measures.{lengthsFor, scratchFor, measuredOf, neededOf};
 
 // Variables, clauses, literals without and with their closing zeros, and the top of the text.
@@ -60,4 +69,89 @@ pub fn top_of(words: &[u32], counts: Counts) -> u64
         k += 1;
     }
     sum
+}
+
+// What the boxes' clauses come to.
+pub fn hard_tally(words: &[u32], n: u32, hard: Hard) -> Tally
+    requires { ⌜ Accepted (now words) × (n ≡ boxCount (now words)) ⌝ }
+    ensures { λ r. ⌜ (r ≡ tallyOf (hardPart hard (tableOf (now (words .entry))))) × (r .clauses ≤ 8192) × (r .literals ≤ 25600) ⌝ }
+{
+    let mut clauses = 0;
+    let mut literals = 0;
+    let mut b = 1;
+    while b <= n {
+        let part = hard::box_tally(hard, table::size(words, b));
+        clauses += part.clauses;
+        literals += part.literals;
+        b += 1;
+    }
+    Tally { clauses, literals }
+}
+
+// The cursor before the next pair.
+fn next_pair(words: &[u32], at: usize) -> usize
+    requires { ⌜ PairStands (now words) at ⌝ }
+    ensures { λ r. ⌜ r ≡ pairNext (now (words .entry)) at ⌝ }
+{
+    let pair = reader::pair_at(words, at);
+    pair.next
+}
+
+// What the pairs' clauses come to, with either hard part alike.
+pub fn soft_tally(words: &[u32], counts: Counts, side: Side) -> Tally
+    requires { ⌜ Counted (now words) counts ⌝ }
+    ensures { λ r.
+        ⌜ (r ≡ tallyOf (bare (softPart Standard side (tableOf (now (words .entry))))))
+        × (r .clauses ≤ 65536)
+        × (r .literals ≤ 262144) ⌝ }
+{
+    let p = counts.pairs;
+    let mut clauses = 0;
+    let mut literals = 0;
+    let mut at = counts.boxes + 2;
+    let mut k = 0;
+    while k < p {
+        let part = pairs::pair_tally(words, side, at);
+        clauses += part.clauses;
+        literals += part.literals;
+        at = next_pair(words, at);
+        k += 1;
+    }
+    Tally { clauses, literals }
+}
+
+// The exact lengths over an accepted table.
+pub fn measure(words: &[u32], counts: Counts, e: Encoding) -> Lengths
+    requires { ⌜ Counted (now words) counts ⌝ }
+    ensures { λ r. ⌜ r ≡ lengthsFor e (tableOf (now (words .entry))) ⌝ }
+{
+    let part = e.hard;
+    let side = e.side;
+    let n = lists::word(words, 0);
+    let p = lists::word(words, 1);
+    let hard = hard_tally(words, n, part);
+    let soft = soft_tally(words, counts, side);
+    let variables = numbers::switch_base(words, n, part) + numbers::switch_count(words, p, side);
+    let clauses = hard.clauses + soft.clauses;
+    let literals = hard.literals + soft.literals;
+    Lengths {
+        variables: lists::wide(variables),
+        clauses,
+        literals,
+        entries: clauses + literals,
+        top: top_of(words, counts),
+    }
+}
+
+// The exact lengths of the clause list: 8 for an unknown encoding, then 1 to 7.
+pub fn exact_lengths(words: &[u32], hard: u32, side: u32) -> Measured
+    ensures { λ r. ⌜ r ≡ measuredOf (pickedOf hard side) (judged (now (words .entry))) ⌝ }
+{
+    match clause::pick(hard, side) {
+        Picked::Unknown => Measured::Refused(Refusal::Choice),
+        Picked::Known(e) => match table::check(words) {
+            Checked::Refused(f) => Measured::Refused(f),
+            Checked::Accepted(counts) => Measured::Lengths(measure(words, counts, e)),
+        },
+    }
 }

@@ -12,8 +12,10 @@ use Rattle.table.specs.Table.{Table, boxes, size, In, Sound}
 use Rattle.table.specs.Words.{boxCount, pairCount, sizeAt, tableOf, Accepted}
 use Rattle.table.proofs.Words.{accepted-parts}
 use Rattle.table.proofs.Tables.{table-boxes, table-count, table-size, accepted-box}
-use Rattle.clause.specs.declared.Hard.the-variants.{Regular}
-use Rattle.clause.specs.declared.Side.the-variants.{Support}
+use Rattle.clause.specs.declared.Hard.{Hard}
+use Rattle.clause.specs.declared.Hard.the-variants.{Standard, Regular}
+use Rattle.clause.specs.declared.Side.{Side}
+use Rattle.clause.specs.declared.Side.the-variants.{Direct, Support, First, Literals, Score}
 use Rattle.table.proofs.Round.{accepted-sound}
 use Rattle.clause.specs.Numbers.{values, valueBase, stepBase, thresholds, switches}
 
@@ -97,3 +99,16 @@ module _ (ws : List ℕ) (A : Accepted ws) where
   pub switches-support : switches (tableOf ws) Support ≡ pairCount ws
   unfolding switches
   switches-support = table-count ws A
+
+  pub switches-few : (s : Side) → switches (tableOf ws) s ≤ 256
+  unfolding switches
+  switches-few Direct = omega arith
+  switches-few Support = omega (arith, table-count ws A, accepted-parts ws A .pairs .range .1)
+  switches-few First = omega arith
+  switches-few Literals = omega arith
+  switches-few Score = omega arith
+
+  pub bases-few : (h : Hard) → values (tableOf ws) + thresholds (tableOf ws) h ≤ 2048
+  unfolding thresholds
+  bases-few Standard = omega (arith, values-small)
+  bases-few Regular = omega (arith, values-small, thresholds-less)

@@ -1,2 +1,2 @@
-pub mod Sight
 pub mod Sums
+pub mod Sight

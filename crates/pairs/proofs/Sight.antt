@@ -9,12 +9,20 @@ use Rattle.table.specs.Words.{boxCount, sizeAt, pairAt, tableOf, Accepted, BoxS
 use Rattle.table.proofs.Tables.{table-size, pair-first, pair-second}
 use Rattle.reader.specs.declared.PairHead.{PairHead}
 use Rattle.reader.specs.Reader.{headAt}
-use Rattle.clause.specs.Numbers.{valueBase}
+use Rattle.clause.specs.declared.Hard.{Hard}
+use Rattle.clause.specs.declared.Side.{Side}
+use Rattle.clause.specs.Clause.{plus, minus}
+use Rattle.clause.specs.Numbers.{valueBase, c}
+use Rattle.clause.specs.Soft.{soft}
+use Rattle.clause.specs.List.{pairClauses}
+use Rattle.clause.proofs.Lengths.{Small, end-small, Room, soft-room}
+use Rattle.hard.specs.Tallies.{tallyOf}
 use Rattle.clause.specs.Ends.{Which, one, two, end}
 use Rattle.numbers.proofs.Counted.{base-small}
 use Rattle.ends.specs.declared.Seen.{Seen}
 use Rattle.ends.specs.Seen.{endOf, SeenWell}
-use Rattle.pairs.specs.Pairs.{firstSeen, turnedOf, seenOf}
+use Rattle.pairs.specs.Pairs.{seenOf, pairTally}
+use Rattle.pairs.proofs.Sums.{tally-any}
 
 -- the two boxes of the pair whose head was read
 pub head-first : (ws : List ℕ) (at : ℕ) (pair : PairHead) → pair ≡ headAt ws at → PairStands ws at → BoxStands ws (pair .first)
@@ -59,3 +67,19 @@ pub record Sees (ws : List ℕ) (at : ℕ) (w : Which) (seen : Seen) : Type 0 wh
 
 pub sees : (ws : List ℕ) (at : ℕ) (w : Which) (seen : Seen) → seen ≡ seenOf ws at w → Accepted ws → PairStands ws at → Sees ws at w seen
 sees ws at w seen e A S = record { well = rw e (seen-well ws at A S w); is = rw e (seen-end ws at w) }
+
+-- ---- a pair of the table by its code's tally, and its bounds
+
+pub pair-small : (ws : List ℕ) (at : ℕ) → Accepted ws → PairStands ws at → (w : Which) → Small (end (tableOf ws) (pairAt ws at) w)
+pair-small ws at A S =
+    end-small (tableOf ws) (pairAt ws at) (rw (first-size ws at A S) (S .first .values .1)) (rw (second-size ws at A S) (S .second .values .1))
+
+module _ (h : Hard) (s : Side) (ws : List ℕ) (k at : ℕ) where
+  pub pair-tally-is : tallyOf (pairClauses h s (tableOf ws) k (pairAt ws at))
+      ≡ pairTally s (end (tableOf ws) (pairAt ws at) one) (end (tableOf ws) (pairAt ws at) two)
+  unfolding pairClauses soft
+  pair-tally-is = tally-any s _ _ (plus (c (tableOf ws) h k)) (minus (c (tableOf ws) h k))
+
+  pub pair-room : Accepted ws → PairStands ws at → Room (pairClauses h s (tableOf ws) k (pairAt ws at)) 256 1024
+  unfolding pairClauses soft
+  pair-room A S = soft-room _ _ (pair-small ws at A S one) (pair-small ws at A S two) _ _ (omega arith) (omega arith) s
