@@ -12,15 +12,15 @@ ghost use mathlib.Core.Path.{_≡_};
 ghost use Rattle.table.specs.Words.{tableOf, judged};
 ghost use Rattle.table.specs.Answers.{Counted};
 ghost use Rattle.clause.specs.Encodings.{pickedOf};
-ghost use Prim.Native.Nat.{_+_, _≤_};
-ghost use Rattle.table.specs.Words.{boxCount, pairNext, Accepted, PairStands};
+ghost use Prim.Native.Nat.{_+_, _≤_, max};
+ghost use Rattle.table.specs.Words.{boxCount, pairAt, pairNext, Accepted, PairStands};
 ghost use Rattle.clause.specs.declared.Hard.the-variants.{Standard};
 ghost use Rattle.clause.specs.Clause.{bare};
 ghost use Rattle.clause.specs.Ends.{one, two};
 ghost use Rattle.clause.specs.List.{hardPart, softPart};
-ghost use Rattle.clause.specs.Lengths.{top};
+ghost use Rattle.clause.specs.Lengths.{top, longest, candidateLength};
 ghost use Rattle.hard.specs.Tallies.{tallyOf};
-ghost use Rattle.measure.specs.Measures.{lengthsFor, scratchFor, measuredOf, neededOf};
+ghost use Rattle.measure.specs.Measures.{lengthsFor, longestLists, scratchFor, measuredOf, neededOf, whichBy};
 
 // Variables, clauses, literals without and with their closing zeros, and the top of the text.
 pub struct Lengths {
@@ -152,6 +152,93 @@ pub fn exact_lengths(words: &[u32], hard: u32, side: u32) -> Measured
         Picked::Known(e) => match table::check(words) {
             Checked::Refused(f) => Measured::Refused(f),
             Checked::Accepted(counts) => Measured::Lengths(measure(words, counts, e)),
+        },
+    }
+}
+
+fn larger(a: usize, b: usize) -> usize
+    ensures { λ r. ⌜ r ≡ max a b ⌝ }
+{
+    if a < b {
+        return b;
+    }
+    a
+}
+
+// How long the list of one end of the pair at the cursor is, closing zeros included.
+fn candidate(words: &[u32], at: usize, second: bool) -> usize
+    requires { ⌜ Accepted (now words) × PairStands (now words) at ⌝ }
+    ensures { λ r. ⌜ r ≡ candidateLength (tableOf (now (words .entry))) (whichBy second) (pairAt (now (words .entry)) at) ⌝ }
+{
+    let first = pairs::from_first(words, at);
+    if second {
+        return pairs::candidate_length(words, pairs::turned(first));
+    }
+    pairs::candidate_length(words, first)
+}
+
+// The longest list of that end in the table.
+fn longest_list(words: &[u32], counts: Counts, second: bool) -> usize
+    requires { ⌜ Counted (now words) counts ⌝ }
+    ensures { λ r. ⌜ r ≡ longest (candidateLength (tableOf (now (words .entry))) (whichBy second)) (tableOf (now (words .entry)) .pairs) ⌝ }
+{
+    let p = counts.pairs;
+    let mut best = 0;
+    let mut at = counts.boxes + 2;
+    let mut k = 0;
+    while k < p {
+        best = larger(best, candidate(words, at, second));
+        at = next_pair(words, at);
+        k += 1;
+    }
+    best
+}
+
+fn longest_lists(words: &[u32], counts: Counts) -> Scratch
+    requires { ⌜ Counted (now words) counts ⌝ }
+    ensures { λ r. ⌜ r ≡ longestLists (tableOf (now (words .entry))) ⌝ }
+{
+    Scratch {
+        first: longest_list(words, counts, false),
+        second: longest_list(words, counts, true),
+    }
+}
+
+// What the two scratch buffers must hold over an accepted table: nothing on the sides that do not choose.
+pub fn scratch_over(words: &[u32], counts: Counts, side: Side) -> Scratch
+    requires { ⌜ Counted (now words) counts ⌝ }
+    ensures { λ r. ⌜ r ≡ scratchFor side (tableOf (now (words .entry))) ⌝ }
+{
+    match side {
+        Side::Direct => Scratch {
+            first: 0,
+            second: 0,
+        },
+        Side::Support => Scratch {
+            first: 0,
+            second: 0,
+        },
+        Side::First => Scratch {
+            first: 0,
+            second: 0,
+        },
+        Side::Literals => longest_lists(words, counts),
+        Side::Score => longest_lists(words, counts),
+    }
+}
+
+// The scratch lengths: 8 for an unknown encoding, then 1 to 7.
+pub fn scratch_lengths(words: &[u32], hard: u32, side: u32) -> Needed
+    ensures { λ r. ⌜ r ≡ neededOf (pickedOf hard side) (judged (now (words .entry))) ⌝ }
+{
+    match clause::pick(hard, side) {
+        Picked::Unknown => Needed::Refused(Refusal::Choice),
+        Picked::Known(e) => match table::check(words) {
+            Checked::Refused(f) => Needed::Refused(f),
+            Checked::Accepted(counts) => {
+                let chosen = e.side;
+                Needed::Scratch(scratch_over(words, counts, chosen))
+            }
         },
     }
 }
