@@ -96,9 +96,13 @@ few-part cs p R =
 -- ---- the soft part comes to the same with either hard part: which number c_k has does not matter
 
 module _ (h g : Hard) (s : Side) (t : Table) where
-  pair-any : (k : ℕ) (p : Pair) → tallyOf (pairClauses h s t k p) ≡ tallyOf (pairClauses g s t k p)
+  same-tally : (k : ℕ) (p : Pair) → tallyOf (pairClauses h s t k p) ≡ tallyOf (pairClauses g s t k p)
   unfolding pairClauses soft
-  pair-any k p = sums.tally-any s _ _ (plus (c t h k)) (minus (c t h k)) ∙ sym (sums.tally-any s _ _ (plus (c t g k)) (minus (c t g k)))
+  same-tally k p = sums.tally-any s _ _ (plus (c t h k)) (minus (c t h k)) ∙ sym (sums.tally-any s _ _ (plus (c t g k)) (minus (c t g k)))
+
+  pub pair-any : (k : ℕ) (p : Pair)
+      → (length (pairClauses h s t k p) ≡ length (pairClauses g s t k p)) × (literalsIn (pairClauses h s t k p) ≡ literalsIn (pairClauses g s t k p))
+  pair-any k p = (ap (λ (u : Tally). u .clauses) (same-tally k p), ap (λ (u : Tally). u .literals) (same-tally k p))
 
   soft-from : (k : ℕ) (ps : List Pair)
       → (length (softFrom h s t k ps) ≡ length (softFrom g s t k ps)) × (literalsIn (bare (softFrom h s t k ps)) ≡ literalsIn (bare (softFrom g s t k ps)))
@@ -111,11 +115,9 @@ module _ (h g : Hard) (s : Side) (t : Table) where
       let us = softFrom h s t (suc k) ps in
       let vs = softFrom g s t (suc k) ps in
       let e = pair-any k p in
-      let r = soft-from (suc k) ps in
-      let n : length cs ≡ length ds = ap (λ (u : Tally). u .clauses) e in
-      let l : literalsIn cs ≡ literalsIn ds = ap (λ (u : Tally). u .literals) e in (
-        length-part w cs us ∙ ap₂ _+_ n (r .0) ∙ sym (length-part w ds vs),
-        literals-part w cs us ∙ ap₂ _+_ l (r .1) ∙ sym (literals-part w ds vs),
+      let r = soft-from (suc k) ps in (
+        length-part w cs us ∙ ap₂ _+_ (e .0) (r .0) ∙ sym (length-part w ds vs),
+        literals-part w cs us ∙ ap₂ _+_ (e .1) (r .1) ∙ sym (literals-part w ds vs),
       )
 
   pub soft-any : (length (softPart h s t) ≡ length (softPart g s t)) × (literalsIn (bare (softPart h s t)) ≡ literalsIn (bare (softPart g s t)))

@@ -47,7 +47,8 @@ pub enum Needed {
     Refused(Refusal),
 }
 
-fn weight_as_sum(weight: u32) -> u64
+// A weight as the sums and the weights of the clauses have it.
+pub fn weight_as_sum(weight: u32) -> u64
     ensures { λ r. ⌜ r ≡ weight ⌝ }
 {
     weight as u64
@@ -89,7 +90,7 @@ pub fn hard_tally(words: &[u32], n: u32, hard: Hard) -> Tally
 }
 
 // The cursor before the next pair.
-fn next_pair(words: &[u32], at: usize) -> usize
+pub fn next_pair(words: &[u32], at: usize) -> usize
     requires { ⌜ PairStands (now words) at ⌝ }
     ensures { λ r. ⌜ r ≡ pairNext (now (words .entry)) at ⌝ }
 {
