@@ -3,16 +3,19 @@ use clause::Hard;
 use clause::Side;
 use table::Counts;
 ghost use mathlib.Core.Path.{_≡_};
-ghost use Prim.Native.Nat.{_+_, _^_, _<_};
+ghost use Prim.Native.Nat.{_+_, _^_, _≤_, _<_};
 ghost use lib.ListN.{length, replicate};
 ghost use Rattle.lists.specs.Stores.{Wrote};
 ghost use Rattle.table.specs.Table.{In};
 ghost use Rattle.table.specs.Words.{boxCount, pairAt, tableOf, Accepted, PairStands};
 ghost use Rattle.table.specs.Answers.{Counted};
 ghost use Rattle.clause.specs.declared.Hard.the-variants.{Standard};
-ghost use Rattle.clause.specs.Clause.{entriesOf, weights};
+ghost use Rattle.clause.specs.Clause.{entriesOf, entries, weights};
+ghost use Rattle.clause.specs.Ends.{one, two};
 ghost use Rattle.clause.specs.Hard.{boxClauses};
 ghost use Rattle.clause.specs.List.{hardPart, softPart};
+ghost use Rattle.clause.specs.Lengths.{scratchLength};
+ghost use Rattle.soft.specs.Scratch.{Kept};
 ghost use Rattle.parts.specs.Parts.{pairCount};
 
 // The hard clauses of box `b`, for a caller that goes part by part.
@@ -85,6 +88,41 @@ pub fn weigh_soft(words: &[u32], counts: Counts, side: Side, out: &mut [u64], fr
     let mut k = 0;
     while k < p {
         cursor = weigh_pair(words, side, at, out, cursor);
+        at = measure::next_pair(words, at);
+        k += 1;
+    }
+    cursor
+}
+
+// The soft part, pair by pair. Only the sides that choose use the scratch slices.
+pub fn put_soft(
+    words: &[u32],
+    counts: Counts,
+    part: Hard,
+    side: Side,
+    first: &mut [i32],
+    second: &mut [i32],
+    out: &mut [i32],
+    from: usize,
+) -> usize
+    requires { ⌜ Counted (now words) counts
+        × (scratchLength side one (tableOf (now words)) ≤ length (now first))
+        × (scratchLength side two (tableOf (now words)) ≤ length (now second))
+        × (from + length (entries (softPart part side (tableOf (now words)))) < 2 ^ 64) ⌝ }
+    ensures { λ r.
+        ⌜ Wrote (now (out .entry)) from (entries (softPart part side (tableOf (now (words .entry))))) r (now (out .exit))
+        × Kept side (now (first .entry)) (now (first .exit))
+        × Kept side (now (second .entry)) (now (second .exit)) ⌝ }
+{
+    let p = counts.pairs;
+    let n = lists::word(words, 0);
+    let mut switch = numbers::switch_base(words, n, part);
+    let mut cursor = from;
+    let mut at = counts.boxes + 2;
+    let mut k = 0;
+    while k < p {
+        switch += 1;
+        cursor = soft::put_pair(words, side, switch, at, first, second, out, cursor);
         at = measure::next_pair(words, at);
         k += 1;
     }
