@@ -6,3 +6,5 @@ pub mod Faults
 pub mod Verdicts
 pub mod Maker
 pub mod Demand3
+pub mod Loops
+pub mod Judged

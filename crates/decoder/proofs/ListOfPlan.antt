@@ -64,11 +64,11 @@ module _ (t : Table) (plan : List ℕ) where
 
   -- ---- its length
 
-  values-long : length (valueBits t plan) ≡ values t
+  pub values-long : length (valueBits t plan) ≡ values t
   unfolding valueBits values
   values-long = flat-length (t .sizes) valueRowOf 1 value-long
 
-  steps-long : (h : Hard) → length (stepBits h t plan) ≡ thresholds t h
+  pub steps-long : (h : Hard) → length (stepBits h t plan) ≡ thresholds t h
   unfolding stepBits thresholds
   steps-long Standard = refl
   steps-long Regular = ap length step-rows ∙ flat-length (steps t) stepRowOf 1 step-long
