@@ -1,0 +1,95 @@
+-- The room is judged by the counts that were measured.
+use Rattle.encoder.proofs.Whole.{fit-enough, fit-short, enough-holds, refusal-left, room-as-judged}
+use Rattle.clause.specs.declared.Encoding.{Encoding}
+use mathlib.Core.List.{List}
+use lib.IntN.{ℤ}
+use Rattle.encoder.specs.Encoded.{roomFault}
+use Rattle.measure.specs.Measures.{lengthsFor, scratchFor}
+use Rattle.measure.specs.declared.Lengths.{Lengths}
+use Rattle.table.specs.Words.{tableOf}
+use Rattle.refusal.specs.declared.Refusal.{Refusal}
+use lib.ListN.{length}
+use Prim.Native.Nat.{ℕ}
+use mathlib.Core.Option.{Option}
+use mathlib.Core.Path.{sym, ap, _∙_}
+use native.Mathlib.Omega.{arith}
+use borrow.Author.Needs.{needs}
+use Rattle.encoder.proofs.encode_checked.Statement.{statement}
+use Rattle.encoder.proofs.encode_checked.Tie as tie
+
+-- the judgement of the room over the measured counts
+abbrev fault : Encoding → List ℕ → (first second literals : List ℤ) → List ℕ → Option Refusal
+fault e ws first second literals weights =
+    let t = tableOf ws in
+    roomFault (lengthsFor e t) (scratchFor (e .side) t) (length first) (length second) (length literals) (length weights)
+
+measure-requires : tie.Need-measure-requires
+measure-requires c κs = search needs
+
+scratch-over-requires : tie.Need-scratch-over-requires
+scratch-over-requires c κs = search needs
+
+room-requires : tie.Need-room-requires
+room-requires c κs = search needs
+
+enum-known-f : tie.Need-enum-known-f
+enum-known-f c = search needs
+
+enum-told : tie.Need-enum-told
+enum-told c = search needs
+
+write-all-requires : tie.Need-write-all-requires
+write-all-requires c κs =
+    let s = c .before .before .before .before .before .before .before .before .before .before .before in
+    let m = c .before .before .before .before .before .before .before .before .measure in
+    let k = c .before .before .before .before .before .before .before .scratch-over in
+    let e = fit-enough (fault (s .args .e) (s .args .words .now) (s .args .first .now) (s .args .second .now) (s .args .literals .now) (s .args .weights .now)) (sym (room-as-judged _ _ _ _ (m .ensures) (k .ensures) (c .before .before .before .before .before .before .room .ensures)) ∙ c .before .before .before .before .enum-told .given .1) in
+    let holds = enough-holds _ _ _ _ _ _ e in
+    let long = ap (λ (n : Lengths). n .entries) (m .ensures) in
+    let many = ap (λ (n : Lengths). n .clauses) (m .ensures) in
+    (s .pre, holds .0, holds .1, omega (arith, long, m .ok), omega (arith, many, m .ok))
+
+returns : tie.Need-returns
+returns c =
+    let s = c .before .before .before .before .before .before .before .before in
+    let m = c .before .before .before .before .before .measure in
+    let k = c .before .before .before .before .scratch-over in
+    let e = fit-short (fault (s .args .e) (s .args .words .now) (s .args .first .now) (s .args .second .now) (s .args .literals .now) (s .args .weights .now)) (sym (room-as-judged _ _ _ _ (m .ensures) (k .ensures) (c .before .before .before .room .ensures)) ∙ c .before .f .given .1) in
+    rw e (refusal-left _ _ _ _ _)
+
+same-length : tie.Need-same-length
+same-length c = search needs
+
+same-length-2 : tie.Need-same-length-2
+same-length-2 c = search needs
+
+same-length-3 : tie.Need-same-length-3
+same-length-3 c = search needs
+
+same-length-4 : tie.Need-same-length-4
+same-length-4 c = search needs
+
+returns-2 : tie.Need-returns-2
+returns-2 c =
+    let s = c .before .before .before .before .before .before .before .before .before .before .before .before .before .before .before .before .before in
+    let m = c .before .before .before .before .before .before .before .before .before .before .before .before .before .before .measure in
+    let k = c .before .before .before .before .before .before .before .before .before .before .before .before .before .scratch-over in
+    let e = fit-enough (fault (s .args .e) (s .args .words .now) (s .args .first .now) (s .args .second .now) (s .args .literals .now) (s .args .weights .now)) (sym (room-as-judged _ _ _ _ (m .ensures) (k .ensures) (c .before .before .before .before .before .before .before .before .before .before .before .before .room .ensures)) ∙ c .before .before .before .before .before .before .before .before .before .before .enum-told .given .1) in
+    rw e (c .before .before .before .before .before .write-all .ensures)
+
+pub encode-checked-spec : {M : Type 1} → statement M
+encode-checked-spec =
+    tie.close
+    (tie.spec
+    measure-requires
+    scratch-over-requires
+    room-requires
+    enum-known-f
+    enum-told
+    write-all-requires
+    returns
+    same-length
+    same-length-2
+    same-length-3
+    same-length-4
+    returns-2)
