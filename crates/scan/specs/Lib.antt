@@ -1,0 +1,3 @@
+pub mod Stands
+pub mod Lines
+pub mod Rows

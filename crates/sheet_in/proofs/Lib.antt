@@ -1,0 +1,5 @@
+pub mod Steps
+pub mod Pairs
+pub mod Groups
+pub mod Answers
+pub mod Round

@@ -1,0 +1,45 @@
+-- The counts, the sizes and the pairs are stored after each other.
+use Rattle.sheet_in.proofs.Answers.{all-words}
+use Rattle.sheet_in.specs.Reading.{pairsAt}
+use lib.ListN.{length}
+use borrow.Author.Needs.{needs}
+use Rattle.sheet_in.proofs.fill.Statement.{statement}
+use Rattle.sheet_in.proofs.fill.Tie as tie
+
+cast-n : tie.Need-cast-n
+cast-n c = search needs
+
+put-word-requires : tie.Need-put-word-requires
+put-word-requires c κs = search needs
+
+put-word-requires-2 : tie.Need-put-word-requires-2
+put-word-requires-2 c κs = search needs
+
+put-sizes-requires : tie.Need-put-sizes-requires
+put-sizes-requires c κs = search needs
+
+read-pairs-requires : tie.Need-read-pairs-requires
+read-pairs-requires c κs = search needs
+
+same-length : tie.Need-same-length
+same-length c = search needs
+
+returns : tie.Need-returns
+returns c =
+    let z = c .before .before .before .before .before .before in
+    let a = z .before .before .before .before .before .before .before .before .before .before .before .before .before .args in
+    all-words (pairsAt (a .text .now) (a .sizes .now) (a .p) (a .from)) (length (a .sizes .now)) (a .p) (a .sizes .now) (a .table .now)
+    (z .before .before .before .before .before .before .before .before .put-word .ensures) (z .before .before .before .before .put-word2 .ensures)
+    (z .put-sizes .ensures) (c .before .before .read-pairs .ensures)
+
+pub fill-spec : {M : Type 1} → statement M
+fill-spec =
+    tie.close
+    (tie.spec
+    cast-n
+    put-word-requires
+    put-word-requires-2
+    put-sizes-requires
+    read-pairs-requires
+    same-length
+    returns)
