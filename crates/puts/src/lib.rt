@@ -19,14 +19,15 @@ fn put(out: &mut [i32], at: usize, v: i32) -> usize
     at + 1
 }
 
-fn literal(v: u32) -> i32
+// A variable as a literal, and its negation.
+pub fn literal(v: u32) -> i32
     requires { ⌜ v < 2 ^ 31 ⌝ }
     ensures { λ r. ⌜ r ≡ pos v ⌝ }
 {
     v as i32
 }
 
-fn negation(v: u32) -> i32
+pub fn negation(v: u32) -> i32
     requires { ⌜ v < 2 ^ 31 ⌝ }
     ensures { λ r. ⌜ r ≡ neg v ⌝ }
 {

@@ -1,0 +1,34 @@
+-- Each of the first n.
+use Prim.Native.Nat.{_-_, _≤_}
+use borrow.Author.Needs.{needs}
+use Rattle.clause_cases.proofs.show_bits.Statement.{statement}
+use Rattle.clause_cases.proofs.show_bits.Tie as tie
+
+abbrev Inv-loop : tie.InvT-loop
+Inv-loop list n i₀ i = i ≤ n
+
+abbrev μ-loop : tie.MeasureT-loop
+μ-loop list n i₀ i = n - i
+
+loop-holds : tie.Need-loop-holds Inv-loop μ-loop
+loop-holds c = search needs
+
+show-bit-at-requires : tie.Need-show-bit-at-requires Inv-loop μ-loop
+show-bit-at-requires c κs = search needs
+
+add-i : tie.Need-add-i Inv-loop μ-loop
+add-i c = search needs
+
+loop-less : tie.Need-loop-less Inv-loop μ-loop
+loop-less c = search needs
+
+loop-again : tie.Need-loop-again Inv-loop μ-loop
+loop-again c = search needs
+
+returns : tie.Need-returns Inv-loop μ-loop
+returns c = search needs
+
+pub show-bits-spec : {M : Type 1} → statement M
+show-bits-spec =
+    tie.close
+    (tie.spec Inv-loop μ-loop loop-holds show-bit-at-requires add-i loop-less loop-again returns)

@@ -1,0 +1,42 @@
+-- Each of the first n.
+use Prim.Native.Nat.{_-_, _≤_}
+use borrow.Author.Needs.{needs}
+use Rattle.clause_cases.proofs.show_weights.Statement.{statement}
+use Rattle.clause_cases.proofs.show_weights.Tie as tie
+
+abbrev Inv-loop : tie.InvT-loop
+Inv-loop weights n i₀ i = i ≤ n
+
+abbrev μ-loop : tie.MeasureT-loop
+μ-loop weights n i₀ i = n - i
+
+loop-holds : tie.Need-loop-holds Inv-loop μ-loop
+loop-holds c = search needs
+
+show-weight-at-requires : tie.Need-show-weight-at-requires Inv-loop μ-loop
+show-weight-at-requires c κs = search needs
+
+add-i : tie.Need-add-i Inv-loop μ-loop
+add-i c = search needs
+
+loop-less : tie.Need-loop-less Inv-loop μ-loop
+loop-less c = search needs
+
+loop-again : tie.Need-loop-again Inv-loop μ-loop
+loop-again c = search needs
+
+returns : tie.Need-returns Inv-loop μ-loop
+returns c = search needs
+
+pub show-weights-spec : {M : Type 1} → statement M
+show-weights-spec =
+    tie.close
+    (tie.spec
+    Inv-loop
+    μ-loop
+    loop-holds
+    show-weight-at-requires
+    add-i
+    loop-less
+    loop-again
+    returns)
