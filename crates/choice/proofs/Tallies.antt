@@ -13,7 +13,7 @@ use Rattle.clause.specs.Ends.{End, supports, full, supportAt, supportClauses}
 use Rattle.clause.specs.Choice.{literalsFrom, points, scoreFrom}
 use Rattle.ends.proofs.Values.{flatFrom, flat-all, flat-turn, flat-none}
 use Rattle.ends.proofs.Ends.{supports-few, clause-none, clause-one, tail-clauses, tail-literals}
-use Rattle.ends.proofs.Texts.{entries-length}
+use Rattle.clause.proofs.Lengths.{entries-length}
 use Rattle.choice.specs.declared.EndTally.{EndTally}
 use Rattle.choice.specs.Tally.{tallyOf, endTally}
 

@@ -20,13 +20,11 @@ use Rattle.table.specs.Words.{boxCount, tableOf, Accepted}
 use Rattle.table.proofs.Words.{accepted-parts}
 use Rattle.table.proofs.Tables.{table-boxes}
 use Rattle.clause.specs.declared.Hard.{Hard}
-use Rattle.clause.specs.declared.Hard.the-variants.{Standard, Regular}
 use Rattle.clause.specs.declared.Side.{Side}
-use Rattle.clause.specs.declared.Side.the-variants.{Direct, Support, First, Literals, Score}
 use Rattle.clause.specs.declared.Encoding.{Encoding}
 use Rattle.clause.specs.Clause.{Reading}
 use Rattle.clause.specs.Numbers.{valueFrom, values, thresholds, switches, variables}
-use Rattle.numbers.proofs.Counted.{values-small, thresholds-less, switches-support}
+use Rattle.numbers.proofs.Counted.{bases-few, switches-few}
 use Rattle.decoder.specs.Lists.{held, valueOf, planOf}
 use Rattle.decoder.specs.Counted.{trueCount, stepsSay, countedOk}
 use Rattle.decoder.specs.Answers.{entriesFault, boxesFault, listFault, decodeFault}
@@ -45,21 +43,8 @@ module _ (h : Hard) (ν : Reading) (v s m : ℕ) where
 -- ---- the variables
 
 module _ (ws : List ℕ) (A : Accepted ws) where
-  thresholds-small : (h : Hard) → thresholds (tableOf ws) h ≤ 1024
-  unfolding thresholds
-  thresholds-small Standard = omega arith
-  thresholds-small Regular = omega (arith, thresholds-less ws A, values-small ws A)
-
-  switches-small : (s : Side) → switches (tableOf ws) s ≤ 256
-  unfolding switches
-  switches-small Direct = omega arith
-  switches-small Support = omega (arith, switches-support ws A, accepted-parts ws A .pairs .range .1)
-  switches-small First = omega arith
-  switches-small Literals = omega arith
-  switches-small Score = omega arith
-
   pub variables-small : (h : Hard) (s : Side) → values (tableOf ws) + thresholds (tableOf ws) h + switches (tableOf ws) s ≤ 2304
-  variables-small h s = omega (arith, values-small ws A, thresholds-small h, switches-small s)
+  variables-small h s = omega (arith, bases-few ws A h, switches-few ws A s)
 
   -- ---- the plan
 

@@ -15,14 +15,15 @@ use Rattle.clause.specs.Ends.{End, supports, directAt, directRow, directClauses
 use Rattle.puts.specs.Signed.{neg}
 use Rattle.ends.proofs.Values.{flatFrom, flat-all}
 use Rattle.ends.proofs.Ends.{supports-length}
-use Rattle.ends.proofs.Texts.{entries-none, entries-one, textFrom}
+use Rattle.ends.proofs.Texts.{entries-one, textFrom}
+use Rattle.clause.proofs.Lengths.{entriesOf-none}
 
 -- ---- as they are written
 
 module _ (e : End) (j i : ℕ) where
   pub allowed-text : e .ok j i ≡ true → entriesOf (directAt e j i) ≡ []
   unfolding directAt
-  allowed-text p = rw p entries-none
+  allowed-text p = rw p entriesOf-none
 
   pub forbidden-text : e .ok j i ≡ false
       → entriesOf (directAt e j i) ≡ (neg (valueFrom (e .own) j) ∷ []) ++ ((neg (valueFrom (e .other) i) ∷ []) ++ (pos 0 ∷ []))

@@ -17,7 +17,9 @@ use Rattle.clause.specs.Numbers.{valueFrom}
 use Rattle.clause.specs.Ends.{End, supports, full, supportAt, supportClauses}
 use Rattle.ends.specs.declared.Seen.{Seen}
 use Rattle.ends.specs.Seen.{SeenWell}
-use Rattle.ends.proofs.Values.{count-turn, count-last, count-all, those-few, all-those}
+use Rattle.lists.proofs.Runs.{count-turn, count-end, count-all}
+use Rattle.lists.proofs.Sums.{those-length}
+use Rattle.ends.proofs.Values.{all-those}
 
 box-few : {ws : List ℕ} {at : ℕ} → PairStands ws at → (t : Bool) → In 1 16 (sizeAt ws (cond t (getD ws (at + 1) 0) (getD ws at 0)))
 box-few S true = S .second .values
@@ -59,10 +61,10 @@ pub supporters-turn : (e : End) (j i : ℕ) → i ≤ e .theirs → supportersFr
 supporters-turn e j i h = rw (count-turn i (e .theirs) h) (test (e .ok j i) (λ p. rw p (omega arith)) (λ p. rw p (omega arith)))
 
 pub supporters-none : (e : End) (j i : ℕ) → e .theirs < i → supportersFrom e j i ≡ 0
-supporters-none e j i h = rw (count-last i (e .theirs) h)
+supporters-none e j i h = rw (count-end i (e .theirs) h)
 
 pub supports-few : (e : End) (j : ℕ) → length (supports e j) ≤ e .theirs
-supports-few e j = omega (arith, supports-length e j, those-few (e .ok j) (count 1 (e .theirs)), length-count 1 (e .theirs))
+supports-few e j = omega (arith, supports-length e j, those-length (e .ok j) (count 1 (e .theirs)), length-count 1 (e .theirs))
 
 -- a value is fully supported exactly if as many values support it as the other box has
 pub full-counted : (e : End) (j : ℕ) → full e j ≡ eqb (length (supports e j)) (e .theirs)

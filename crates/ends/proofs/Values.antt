@@ -1,24 +1,16 @@
--- A loop over the values j, j + 1, .., m: one turn, the end, and all of them at the start. And a test counted over a list.
+-- What a loop over the values j, j + 1, .., m still has to give. And a test counted over a list.
 use mathlib.Core.Path.{_≡_, refl, ap, _∙_}
 use mathlib.Core.Bool.{Bool}
 use mathlib.Core.List.{List, [], _∷_, _++_, flatMap}
 use Prim.Native.Nat.{ℕ, suc, _+_, _-_, _≤_, _<_}
-use native.Mathlib.Numerals.{add-one}
 use native.Mathlib.Omega.{arith}
 use lib.ListN.{length, length-append}
 use lib.Dec.{eqb, eqb·suc-suc}
 use borrow.Author.Tests.{ne-eqb}
 use Rattle.lists.specs.Lists.{count, all, those}
 use Rattle.lists.proofs.Truth.{test}
-
-pub count-turn : (j m : ℕ) → j ≤ m → count j (m + 1 - j) ≡ j ∷ count (j + 1) (m + 1 - (j + 1))
-count-turn j m h = let k : m + 1 - j ≡ suc (m + 1 - (j + 1)) = omega arith in rw (k, add-one j)
-
-pub count-last : (j m : ℕ) → m < j → count j (m + 1 - j) ≡ []
-count-last j m h = let k : m + 1 - j ≡ 0 = omega arith in rw k
-
-pub count-all : (m : ℕ) → count 1 (m + 1 - 1) ≡ count 1 m
-count-all m = let k : m + 1 - 1 ≡ m = omega arith in rw k
+use Rattle.lists.proofs.Runs.{count-turn, count-end, count-all}
+use Rattle.lists.proofs.Sums.{those-length}
 
 -- what g gives for the values j, j + 1, .., m
 abbrev pub flatFrom : {A : Type 0} → (ℕ → List A) → ℕ → ℕ → List A
@@ -34,19 +26,15 @@ module _ {A : Type 0} (g : ℕ → List A) (m : ℕ) where
 
   pub flat-none : (j : ℕ) → m < j → flatFrom g m j ≡ []
   unfolding flatMap
-  flat-none j h = rw (count-last j m h)
+  flat-none j h = rw (count-end j m h)
 
   pub length-turn : (j : ℕ) → j ≤ m → length (flatFrom g m j) ≡ length (g j) + length (flatFrom g m (j + 1))
   length-turn j h = ap length (flat-turn j h) ∙ length-append (g j) (flatFrom g m (j + 1))
 
 module _ {A : Type 0} (f : A → Bool) where
-  pub those-few : (l : List A) → length (those f l) ≤ length l
-  those-few [] = omega arith
-  those-few (a ∷ l) = test (f a) (λ p. rw p (omega (arith, those-few l))) (λ p. rw p (omega (arith, those-few l)))
-
   -- all pass exactly if as many pass as there are
   pub all-those : (l : List A) → all f l ≡ eqb (length (those f l)) (length l)
   all-those [] = refl
   all-those (a ∷ l) =
       test (f a) (λ p. rw (p, eqb·suc-suc) (all-those l))
-      (λ p. rw (p, ne-eqb (length (those f l)) (suc (length l)) (λ e. omega (arith, those-few l))))
+      (λ p. rw (p, ne-eqb (length (those f l)) (suc (length l)) (λ e. omega (arith, those-length f l))))

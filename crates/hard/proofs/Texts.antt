@@ -7,36 +7,18 @@ use native.Mathlib.Omega.{arith}
 use lib.ListN.{length, length-append}
 use lib.IntN.{pos}
 use Rattle.lists.specs.Lists.{count}
-use Rattle.lists.specs.Stores.{Owes}
-use Rattle.lists.proofs.Lists.{flat-append}
+use Rattle.lists.proofs.Runs.{run-turn, run-end}
 use Rattle.clause.specs.Clause.{plus, minus, Clause, closed, entriesOf}
 use Rattle.clause.specs.Numbers.{valueFrom, stepFrom}
+use Rattle.clause.proofs.Lengths.{entriesOf-append}
 use Rattle.clause.specs.Hard.{oneOf, standardBox, chainAt, lowest, between, highest, regularBox}
 use Rattle.hard.specs.Writers.{apart, chain, allBetween}
-
--- ---- general: the numbers from j to n - 1, as a loop goes through them
-
-pub run-turn : (n j : ℕ) → j < n → count j (n - j) ≡ j ∷ count (j + 1) (n - (j + 1))
-run-turn n j h = let e : n - j ≡ suc (n - (j + 1)) = omega arith in rw (e, add-one)
-
-pub run-end : (n j : ℕ) → n ≤ j → count j (n - j) ≡ []
-run-end n j h = let e : n - j ≡ 0 = omega arith in rw e
 
 -- the numbers after j, up to m itself
 pub run-start : (m j : ℕ) → count (suc j) (m - j) ≡ count (j + 1) (m + 1 - (j + 1))
 run-start m j = let e : m + 1 - (j + 1) ≡ m - j = omega arith in rw (e, add-one)
 
--- ---- general: where the whole has room, what a loop stores next has
-
-pub room-part : {A : Type 0} {n : ℕ} {old all out rest : List A} {start at : ℕ} (vs ws : List A)
-    → Owes old start all out at rest → rest ≡ vs ++ ws → start + length all < n → at + length vs < n
-room-part vs ws o e h = omega (arith, o .ends, ap length e, length-append vs ws)
-
--- ---- general: the texts of clauses, and of a loop over numbers that writes them
-
-pub text-append : (cs ds : List Clause) → entriesOf (cs ++ ds) ≡ entriesOf cs ++ entriesOf ds
-unfolding entriesOf
-text-append cs ds = flat-append closed cs ds
+-- ---- general: the texts of a loop over numbers
 
 -- a literal a turn
 module _ (x : ℕ → ℕ) (n j : ℕ) where
@@ -60,7 +42,7 @@ module _ (f : ℕ → Clause) (n j : ℕ) where
 module _ (g : ℕ → List Clause) (n j : ℕ) where
   pub texts-turn : j < n → entriesOf (flatMap g (count j (n - j))) ≡ entriesOf (g j) ++ entriesOf (flatMap g (count (j + 1) (n - (j + 1))))
   unfolding flatMap
-  texts-turn h = rw (run-turn n j h) (text-append (g j) _)
+  texts-turn h = rw (run-turn n j h) (entriesOf-append (g j) _)
 
   pub texts-end : n ≤ j → entriesOf (flatMap g (count j (n - j))) ≡ []
   unfolding entriesOf flatMap
@@ -88,7 +70,7 @@ module _ (x r : ℕ → ℕ) where
   unfolding regularBox
   regular-text zero h = absurd (omega arith)
   regular-text (suc zero) h = absurd (omega arith)
-  regular-text (suc (suc k)) h = let z : suc (suc k) - 2 ≡ k = omega arith in rw z (simp text-append)
+  regular-text (suc (suc k)) h = let z : suc (suc k) - 2 ≡ k = omega arith in rw z (simp entriesOf-append)
 
   pub regular-size : (m : ℕ) → 2 ≤ m
       → length (entriesOf (regularBox x r m))

@@ -77,13 +77,20 @@ sum-snoc f s n = ap (sumOf f) (count-snoc s n) ∙ sum-append f (count s n) ((s 
 pub all-snoc : (f : ℕ → Bool) (s n : ℕ) → all f (count s (suc n)) ≡ (all f (count s n) && f (s + n))
 all-snoc f s n = ap (all f) (count-snoc s n) ∙ all-append f (count s n) ((s + n) ∷ []) ∙ ap (λ (o : Bool). all f (count s n) && o) (and-true (f (s + n)))
 
--- ---- a run from its front, as a loop counts: from j to m
+-- ---- a run from its front, as a loop counts: from j to n - 1
 
+pub run-turn : (n j : ℕ) → j < n → count j (n - j) ≡ j ∷ count (j + 1) (n - (j + 1))
+run-turn n j h = let e : n - j ≡ suc (n - (j + 1)) = omega arith in let z : suc j ≡ j + 1 = omega arith in rw (e, z)
+
+pub run-end : (n j : ℕ) → n ≤ j → count j (n - j) ≡ []
+run-end n j h = let e : n - j ≡ 0 = omega arith in rw e
+
+-- from j to m itself
 pub count-turn : (j m : ℕ) → j ≤ m → count j (m + 1 - j) ≡ j ∷ count (j + 1) (m + 1 - (j + 1))
-count-turn j m h = let e : m + 1 - j ≡ suc (m + 1 - (j + 1)) = omega arith in let z : suc j ≡ j + 1 = omega arith in rw (e, z)
+count-turn j m h = run-turn (m + 1) j (omega arith)
 
 pub count-end : (j m : ℕ) → m < j → count j (m + 1 - j) ≡ []
-count-end j m h = let e : m + 1 - j ≡ 0 = omega arith in rw e
+count-end j m h = run-end (m + 1) j (omega arith)
 
 pub count-all : (m : ℕ) → count 1 (m + 1 - 1) ≡ count 1 m
 count-all m = let e : m + 1 - 1 ≡ m = omega arith in rw e

@@ -1,7 +1,7 @@
 -- A run of stores: what is stored in two goes is stored as one, and what a loop still owes.
 use mathlib.Core.Path.{_≡_, refl, sym, ap, _∙_}
 use mathlib.Core.List.{List, [], _∷_, _++_}
-use Prim.Native.Nat.{ℕ, suc, _+_, _≤_}
+use Prim.Native.Nat.{ℕ, suc, _+_, _≤_, _<_}
 use native.Mathlib.Nat.{add-zero, add-suc, suc-add}
 use native.Mathlib.Omega.{arith}
 use lib.ListN.{length, set, take, length-append}
@@ -48,6 +48,11 @@ module _ {A : Type 0} where
         ends = omega (arith, w .next, o .ends, ap length e, length-append vs ws);
         long = wrote-long w ∙ o .long;
       }
+
+  -- where the whole has room, what a turn stores has
+  pub owes-room : {n : ℕ} {old all out rest : List A} {start at : ℕ} (vs ws : List A)
+      → Owes old start all out at rest → rest ≡ vs ++ ws → start + length all < n → at + length vs < n
+  owes-room vs ws o e h = omega (arith, o .ends, ap length e, length-append vs ws)
 
   pub owes-none : {old all out rest : List A} {start at : ℕ} → Owes old start all out at rest → rest ≡ [] → Wrote old start all at out
   owes-none {out = out} {at = at} o e =

@@ -14,6 +14,7 @@ use Rattle.clause.specs.Soft.{pick, softWith}
 use Rattle.clause.proofs.Lengths.{literals-append, entries-length, direct-literals, support-tail, support-tail-length, Small, Room, soft-room}
 use Rattle.hard.specs.declared.Tally.{Tally}
 use Rattle.hard.specs.Tallies.{tallyOf}
+use Rattle.hard.proofs.Tallies.{tally}
 use Rattle.ends.specs.declared.Seen.{Seen}
 use Rattle.ends.specs.Seen.{endOf, SeenWell}
 use Rattle.ends.proofs.Ends.{mine-few, theirs-few}
@@ -21,10 +22,6 @@ use Rattle.choice.specs.declared.EndTally.{EndTally}
 use Rattle.choice.specs.Tally.{endTally, secondBy}
 use Rattle.choice.proofs.Choice.{literals-picks, score-picks}
 use Rattle.pairs.specs.Pairs.{bareTally, bothTally, chosenTally, pairTally}
-
--- two tallies with the same numbers
-pub tally : {a b c d : ℕ} → a ≡ c → b ≡ d → _≡_ {A = Tally} (record { clauses = a; literals = b }) (record { clauses = c; literals = d })
-tally p q = rw (p, q)
 
 -- ---- an end
 

@@ -12,9 +12,11 @@ use Rattle.clause.specs.Clause.{plus, minus, coded, Clause, closed, entriesOf}
 use Rattle.clause.specs.Numbers.{valueFrom}
 use Rattle.clause.specs.Ends.{End, supports, full, supportAt, supportClauses}
 use Rattle.puts.specs.Signed.{neg}
-use Rattle.ends.proofs.Values.{count-turn, count-last, count-all, flat-all}
+use Rattle.ends.proofs.Values.{flat-all}
+use Rattle.lists.proofs.Runs.{count-turn, count-end, count-all}
 use Rattle.ends.proofs.Ends.{clause-none, clause-one}
-use Rattle.ends.proofs.Texts.{entries-none, entries-one, textFrom}
+use Rattle.ends.proofs.Texts.{entries-one, textFrom}
+use Rattle.clause.proofs.Lengths.{entriesOf-none}
 use Rattle.support.specs.Tails.{supporter}
 
 -- ---- one value's support
@@ -41,7 +43,7 @@ module _ (e : End) (j : ℕ) where
   support-turn i h = rw (count-turn i (e .theirs) h) (test (e .ok j i) (λ p. rw p) (λ p. rw p))
 
   pub support-none : (i : ℕ) → e .theirs < i → supportFrom e j i ≡ []
-  support-none i h = rw (count-last i (e .theirs) h)
+  support-none i h = rw (count-end i (e .theirs) h)
 
 -- ---- one value's clause
 
@@ -50,7 +52,7 @@ parts v s tail = ap (λ (l : List ℤ). neg v ∷ l) (rw (map-append coded s tai
 
 module _ (e : End) (tail : Clause) (j : ℕ) where
   pub value-full : full e j ≡ true → entriesOf (supportAt e tail j) ≡ []
-  value-full p = rw (clause-none e tail j p) entries-none
+  value-full p = rw (clause-none e tail j p) entriesOf-none
 
   pub value-partly : full e j ≡ false
       → entriesOf (supportAt e tail j) ≡ (neg (valueFrom (e .own) j) ∷ []) ++ (map coded (supports e j) ++ (map coded tail ++ (pos 0 ∷ [])))

@@ -1,7 +1,7 @@
 -- The clauses of the values from j on are still owed.
-use Rattle.hard.proofs.Texts.{room-part, texts-turn, texts-end}
+use Rattle.hard.proofs.Texts.{texts-turn, texts-end}
 use Rattle.hard.specs.Writers.{allBetween}
-use Rattle.lists.proofs.Stores.{owes-all, owes-part, owes-none}
+use Rattle.lists.proofs.Stores.{owes-all, owes-part, owes-none, owes-room}
 use Rattle.lists.specs.Lists.{count}
 use Rattle.lists.specs.Stores.{Owes}
 use Rattle.clause.specs.Clause.{entriesOf}
@@ -36,7 +36,7 @@ put-between-requires c κs =
       omega arith,
       b .pre .2,
       b .pre .3,
-      room-part (entriesOf (g (l .loop .j))) _ (l .loop .inv .2) (texts-turn g (b .args .m) (l .loop .j) (t .loop-test .taken)) (b .pre .4),
+      owes-room (entriesOf (g (l .loop .j))) _ (l .loop .inv .2) (texts-turn g (b .args .m) (l .loop .j) (t .loop-test .taken)) (b .pre .4),
     )
 
 add-j : tie.Need-add-j Inv-loop μ-loop

@@ -1,7 +1,7 @@
 -- The clauses of the values from j on are still owed.
-use Rattle.hard.proofs.Texts.{room-part, texts-turn, texts-end}
+use Rattle.hard.proofs.Texts.{texts-turn, texts-end}
 use Rattle.hard.specs.Writers.{apartFrom, apart}
-use Rattle.lists.proofs.Stores.{owes-all, owes-part, owes-none}
+use Rattle.lists.proofs.Stores.{owes-all, owes-part, owes-none, owes-room}
 use Rattle.lists.specs.Lists.{count}
 use Rattle.lists.specs.Stores.{Owes}
 use Rattle.clause.specs.Clause.{entriesOf}
@@ -34,7 +34,7 @@ put-apart-from-requires c κs =
       t .loop-test .taken,
       s .pre .0,
       s .pre .1,
-      room-part (entriesOf (g (l .loop .j))) _ (l .loop .inv .1) (texts-turn g (s .args .m + 1) (l .loop .j) (omega arith)) (s .pre .2),
+      owes-room (entriesOf (g (l .loop .j))) _ (l .loop .inv .1) (texts-turn g (s .args .m + 1) (l .loop .j) (omega arith)) (s .pre .2),
     )
 
 add-j : tie.Need-add-j Inv-loop μ-loop

@@ -1,7 +1,7 @@
 -- The clauses from k on are still owed.
-use Rattle.hard.proofs.Texts.{run-start, room-part, text-turn, text-end}
+use Rattle.hard.proofs.Texts.{run-start, text-turn, text-end}
 use Rattle.hard.specs.Writers.{apartFrom}
-use Rattle.lists.proofs.Stores.{owes-all, owes-part, owes-none}
+use Rattle.lists.proofs.Stores.{owes-all, owes-part, owes-none, owes-room}
 use Rattle.lists.specs.Lists.{count}
 use Rattle.lists.specs.Stores.{Owes}
 use Rattle.clause.specs.Clause.{closed, entriesOf}
@@ -42,7 +42,7 @@ put-two-requires c κs =
     let f = notBoth (valueFrom (s .args .v)) (s .args .j) in (
       omega arith,
       omega arith,
-      room-part (closed (f (l .loop .k))) _ (l .loop .inv .1) (text-turn f (s .args .m + 1) (l .loop .k) (omega arith)) (s .pre .3),
+      owes-room (closed (f (l .loop .k))) _ (l .loop .inv .1) (text-turn f (s .args .m + 1) (l .loop .k) (omega arith)) (s .pre .3),
     )
 
 add-k-2 : tie.Need-add-k-2 Inv-loop μ-loop

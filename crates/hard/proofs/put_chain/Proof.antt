@@ -1,7 +1,7 @@
 -- The clauses from j on are still owed.
-use Rattle.hard.proofs.Texts.{room-part, text-end, chain-turn}
+use Rattle.hard.proofs.Texts.{text-end, chain-turn}
 use Rattle.hard.specs.Writers.{chain}
-use Rattle.lists.proofs.Stores.{owes-all, owes-part, owes-none}
+use Rattle.lists.proofs.Stores.{owes-all, owes-part, owes-none, owes-room}
 use Rattle.lists.specs.Lists.{count}
 use Rattle.lists.specs.Stores.{Owes}
 use Rattle.clause.specs.Clause.{plus, minus, closed, entriesOf}
@@ -48,7 +48,7 @@ put-two-requires c κs =
     let j = l .loop .j in (
       omega arith,
       omega arith,
-      room-part (closed (minus (s + (j - 1)) ∷ plus (s + (j - 2)) ∷ [])) _ (l .loop .inv .2) (chain-turn s (b .args .m + 1) j (omega arith)) (b .pre .3),
+      owes-room (closed (minus (s + (j - 1)) ∷ plus (s + (j - 2)) ∷ [])) _ (l .loop .inv .2) (chain-turn s (b .args .m + 1) j (omega arith)) (b .pre .3),
     )
 
 add-j : tie.Need-add-j Inv-loop μ-loop

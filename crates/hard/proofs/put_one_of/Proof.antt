@@ -1,6 +1,6 @@
 -- The literals from j on and the closing 0 are still owed.
-use Rattle.hard.proofs.Texts.{room-part, values-turn, values-end}
-use Rattle.lists.proofs.Stores.{wrote-long, owes-all, owes-part, owes-none}
+use Rattle.hard.proofs.Texts.{values-turn, values-end}
+use Rattle.lists.proofs.Stores.{wrote-long, owes-all, owes-part, owes-none, owes-room}
 use Rattle.lists.specs.Lists.{count}
 use Rattle.lists.specs.Stores.{Owes}
 use Rattle.clause.specs.Clause.{plus, closed}
@@ -33,7 +33,7 @@ put-plus-requires : tie.Need-put-plus-requires Inv-loop μ-loop
 put-plus-requires c κs =
     let l = c .before .before in
     let s = l .before in (
-      room-part (pos (s .args .v + l .loop .j) ∷ []) _ (l .loop .inv .1) (values-turn (valueFrom (s .args .v)) (s .args .m + 1) (l .loop .j) (omega arith)) (s .pre .2),
+      owes-room (pos (s .args .v + l .loop .j) ∷ []) _ (l .loop .inv .1) (values-turn (valueFrom (s .args .v)) (s .args .m + 1) (l .loop .j) (omega arith)) (s .pre .2),
       omega arith,
     )
 
@@ -57,7 +57,7 @@ put-close-requires : tie.Need-put-close-requires Inv-loop μ-loop
 put-close-requires c κs =
     let l = c .before .before in
     let s = l .before in
-    room-part (pos 0 ∷ []) [] (l .loop .inv .1) (values-end (valueFrom (s .args .v)) (s .args .m + 1) (l .loop .j) (omega arith)) (s .pre .2)
+    owes-room (pos 0 ∷ []) [] (l .loop .inv .1) (values-end (valueFrom (s .args .v)) (s .args .m + 1) (l .loop .j) (omega arith)) (s .pre .2)
 
 same-length : tie.Need-same-length Inv-loop μ-loop
 same-length c = wrote-long (c .before .put-close .ensures) ∙ c .before .before .before .before .loop .inv .1 .long

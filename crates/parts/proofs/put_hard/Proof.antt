@@ -1,6 +1,5 @@
 -- What the boxes ahead have is still owed.
 use Rattle.parts.proofs.Writing.{hard-start}
-use Rattle.hard.proofs.Texts.{room-part}
 use Rattle.clause.specs.Hard.{boxClauses}
 use Rattle.clause.proofs.Turns.{hardFrom, hard-text, hard-end}
 use Rattle.clause.proofs.Lengths.{entriesOf-none}
@@ -8,7 +7,7 @@ use Rattle.clause.specs.List.{hardPart}
 use Rattle.clause.specs.Clause.{entriesOf}
 use Rattle.table.proofs.Words.{accepted-parts}
 use Rattle.table.specs.Words.{tableOf}
-use Rattle.lists.proofs.Stores.{owes-all, owes-part, owes-none}
+use Rattle.lists.proofs.Stores.{owes-all, owes-part, owes-none, owes-room}
 use Rattle.lists.specs.Stores.{Owes}
 use Prim.Native.Nat.{_+_, _-_, _≤_}
 use mathlib.Core.Path.{ap, _∙_}
@@ -40,7 +39,7 @@ put-box-requires c κs =
       s .pre .0,
       s .pre .1,
       (l .loop .inv .0, omega (arith, s .pre .1, t .loop-test .taken)),
-      room-part (entriesOf (boxClauses (s .args .part) (tableOf (s .args .words .now)) (l .loop .b))) _ (l .loop .inv .2) text (s .pre .2),
+      owes-room (entriesOf (boxClauses (s .args .part) (tableOf (s .args .words .now)) (l .loop .b))) _ (l .loop .inv .2) text (s .pre .2),
     )
 
 add-b : tie.Need-add-b Inv-loop μ-loop

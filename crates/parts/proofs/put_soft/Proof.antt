@@ -2,7 +2,7 @@
 use Rattle.parts.proofs.Writing.{Writes, writes-all, writes-turn, writes-none, switched}
 use Rattle.parts.proofs.Scratch.{asked, asked-all, asked-now, asked-next, kept-all, kept-turn, kept-long}
 use Rattle.soft.specs.Scratch.{Kept}
-use Rattle.hard.proofs.Texts.{room-part}
+use Rattle.lists.proofs.Stores.{owes-room}
 use Rattle.numbers.proofs.Counted.{bases-few}
 use Rattle.clause.proofs.Turns.{soft-text}
 use Rattle.clause.specs.List.{pairClauses}
@@ -88,7 +88,7 @@ put-pair-requires c κs =
     let few = bases-few ws (s .pre .0 .table) (s .args .part) in
     let next : l .loop .switch + 1 ≡ values t + thresholds t (s .args .part) + (l .loop .k + 1) = omega (arith, is, l .loop .inv .3) in
     let text = soft-text (s .args .part) (s .args .side) ws p (l .loop .k) (l .loop .at) (c .before .before .before .loop-test .taken) in
-    let fits = room-part (entriesOf (pairClauses (s .args .part) (s .args .side) t (l .loop .k + 1) (pairAt ws (l .loop .at)))) _ (l .loop .inv .4 .owed (s .args .part) is) text (s .pre .3) in (
+    let fits = owes-room (entriesOf (pairClauses (s .args .part) (s .args .side) t (l .loop .k + 1) (pairAt ws (l .loop .at)))) _ (l .loop .inv .4 .owed (s .args .part) is) text (s .pre .3) in (
       s .pre .0 .table,
       turn .0,
       omega (arith, few, is, l .loop .inv .3, l .loop .inv .0, l .loop .inv .1),

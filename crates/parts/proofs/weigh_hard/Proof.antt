@@ -1,7 +1,6 @@
 -- What the boxes ahead have is still owed.
 use Rattle.parts.proofs.Writing.{hard-start}
 use Rattle.measure.proofs.Counting.{box-tally-is}
-use Rattle.hard.proofs.Texts.{room-part}
 use Rattle.hard.specs.Tallies.{boxTally}
 use Rattle.hard.specs.declared.Tally.{Tally}
 use Rattle.clause.specs.Hard.{boxClauses}
@@ -11,7 +10,7 @@ use Rattle.clause.specs.Clause.{Clause}
 use Rattle.table.proofs.Tables.{accepted-box}
 use Rattle.table.proofs.Words.{accepted-parts}
 use Rattle.table.specs.Words.{tableOf}
-use Rattle.lists.proofs.Stores.{owes-all, owes-part, owes-none}
+use Rattle.lists.proofs.Stores.{owes-all, owes-part, owes-none, owes-room}
 use Rattle.lists.specs.Stores.{Owes}
 use lib.ListN.{length, replicate, length-replicate}
 use Prim.Native.Nat.{ℕ, _+_, _-_, _≤_, _<_, _^_}
@@ -67,7 +66,7 @@ put-weights-requires c κs =
     let room : s .args .from + length (replicate {A = ℕ} (length (hardPart (s .args .part) (tableOf ws))) 0) < 2 ^ 64 = rw length-replicate (s .pre .2) in
     let w : ℕ = 0 in
     let box = replicate (length (boxClauses (s .args .part) (tableOf ws) (l .loop .b))) w in
-    let fits = room-part box (replicate (length (hardFrom (s .args .part) (tableOf ws) (s .args .n) (l .loop .b + 1))) w) (l .loop .inv .2) text room in
+    let fits = owes-room box (replicate (length (hardFrom (s .args .part) (tableOf ws) (s .args .n) (l .loop .b + 1))) w) (l .loop .inv .2) text room in
     omega (arith, count, fits, length-replicate (length (boxClauses (s .args .part) (tableOf ws) (l .loop .b))) w)
 
 add-b : tie.Need-add-b Inv-loop μ-loop

@@ -1,7 +1,6 @@
 -- What the pairs ahead have is still owed.
 use Rattle.parts.proofs.Writing.{soft-start, weights-turn}
 use Rattle.parts.specs.Parts.{pairCount}
-use Rattle.hard.proofs.Texts.{room-part}
 use Rattle.clause.proofs.Turns.{softAhead, soft-end}
 use Rattle.clause.specs.List.{softPart}
 use Rattle.clause.specs.Clause.{weights}
@@ -9,7 +8,7 @@ use Rattle.clause.specs.declared.Hard.the-variants.{Standard}
 use Rattle.table.proofs.Tables.{counted-start}
 use Rattle.table.proofs.Words.{ahead-turn}
 use Rattle.table.specs.Words.{tableOf, pairAt, Ahead}
-use Rattle.lists.proofs.Stores.{owes-all, owes-part, owes-none}
+use Rattle.lists.proofs.Stores.{owes-all, owes-part, owes-none, owes-room}
 use Rattle.lists.specs.Stores.{Owes}
 use lib.ListN.{replicate, length-replicate}
 use Prim.Native.Nat.{_-_, _≤_}
@@ -56,7 +55,7 @@ weigh-pair-requires c κs =
     let turn = ahead-turn ws p (l .loop .k) (l .loop .at) (c .before .loop-test .taken) (l .loop .inv .2) in
     let text = weights-turn (s .args .side) ws p (l .loop .k) (l .loop .at) (c .before .loop-test .taken) in
     let part = replicate (pairCount (s .args .side) ws (l .loop .at)) (pairAt ws (l .loop .at) .weight) in
-    let fits = room-part part _ (l .loop .inv .3) text (s .pre .1) in
+    let fits = owes-room part _ (l .loop .inv .3) text (s .pre .1) in
     (s .pre .0 .table, turn .0, omega (arith, fits, length-replicate (pairCount (s .args .side) ws (l .loop .at)) (pairAt ws (l .loop .at) .weight)))
 
 next-pair-requires : tie.Need-next-pair-requires Inv-loop μ-loop

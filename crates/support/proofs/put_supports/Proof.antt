@@ -2,11 +2,10 @@
 use Rattle.support.proofs.Support.{supportFrom, support-all, support-turn, support-none}
 use Rattle.support.specs.Tails.{supporter}
 use Rattle.ends.proofs.Ends.{theirs-few}
-use Rattle.ends.proofs.Texts.{owes-room}
 use Rattle.ends.specs.Seen.{endOf}
 use Rattle.clause.specs.Clause.{coded}
 use Rattle.clause.specs.Ends.{supports}
-use Rattle.lists.proofs.Stores.{owes-all, owes-part, owes-none}
+use Rattle.lists.proofs.Stores.{owes-all, owes-part, owes-none, owes-room}
 use Rattle.lists.specs.Stores.{Owes}
 use Prim.Native.Nat.{_+_, _-_, _≤_}
 use mathlib.Core.List.{map}
