@@ -14,18 +14,20 @@ use Rattle.refusal.specs.declared.Refusal.the-variants.{Room}
 use lib.Dec.{leb}
 use borrow.Author.Tests.{leb-true}
 use Rattle.refusal.specs.declared.Refusal.{Refusal}
-use Rattle.table.specs.Table.{Table}
+use Rattle.table.specs.Table.{Table, Pair}
 use Rattle.clause.specs.declared.Encoding.{Encoding}
 use Rattle.clause.specs.declared.Hard.{Hard}
 use Rattle.clause.specs.declared.Hard.the-variants.{Standard}
 use Rattle.clause.specs.declared.Side.{Side}
 use Rattle.clause.specs.declared.Side.the-variants.{Direct, Support, First, Literals, Score}
 use Rattle.clause.specs.Clause.{entriesOf, entries, weights}
+use Rattle.clause.specs.Ends.{Which, one, two}
 use Rattle.clause.specs.List.{hardPart, softPart, clauses}
 use Rattle.clause.specs.Lengths.{clauseCount, entryCount}
 use Rattle.clause.proofs.Turns.{entries-clauses, weights-clauses, weights-count}
 use Rattle.puts.specs.Signed.{zeros}
-use Rattle.soft.specs.Scratch.{Kept}
+use Rattle.parts.specs.Parts.{scratchThrough}
+use Rattle.parts.proofs.Scratch.{through-long}
 use Rattle.measure.specs.declared.Lengths.{Lengths}
 use Rattle.measure.specs.declared.Scratch.{Scratch}
 use Rattle.parts.proofs.Writing.{weights-any}
@@ -80,13 +82,19 @@ zeros-long [] (y ∷ b) e = absurd (omega (arith, e))
 zeros-long (x ∷ a) [] e = absurd (omega (arith, e))
 zeros-long (x ∷ a) (y ∷ b) e = ap (λ (l : List ℤ). pos 0 ∷ l) (zeros-long a b (omega (arith, e)))
 
--- what was kept is left as what was lent is
-pub left-kept : (s : Side) (a b : List ℤ) → Kept s a b → scratchLeft s b ≡ scratchLeft s a
-left-kept Direct a b k = k
-left-kept Support a b k = k
-left-kept First a b k = k
-left-kept Literals a b k = zeros-long b a k
-left-kept Score a b k = zeros-long b a k
+-- whatever the pairs put into a scratch slice, it is left as what was lent is
+left-through : (s : Side) (w : Which) (t : Table) (ps : List Pair) (old : List ℤ) → scratchLeft s (scratchThrough s w t ps old) ≡ scratchLeft s old
+left-through Direct w t [] old = refl
+left-through Direct w t (p ∷ ps) old = left-through Direct w t ps old
+left-through Support w t [] old = refl
+left-through Support w t (p ∷ ps) old = left-through Support w t ps old
+left-through First w t [] old = refl
+left-through First w t (p ∷ ps) old = left-through First w t ps old
+left-through Literals w t ps old = zeros-long (scratchThrough Literals w t ps old) old (through-long Literals w t ps old)
+left-through Score w t ps old = zeros-long (scratchThrough Score w t ps old) old (through-long Score w t ps old)
+
+left : (s : Side) (w : Which) (t : Table) (old mid : List ℤ) {new : List ℤ} → mid ≡ scratchThrough s w t (t .pairs) old → new ≡ scratchLeft s mid → new ≡ scratchLeft s old
+left s w t old mid e f = f ∙ ap (scratchLeft s) e ∙ left-through s w t (t .pairs) old
 
 -- ---- the judgement of the room
 
@@ -107,7 +115,7 @@ room-as-judged first second literals weights e f g = rw (e, f) at g
 
 pub all-written : (e : Encoding) (t : Table) (first second first₁ second₁ : List ℤ) {literals literals₁ first₂ second₂ : List ℤ} {heavy heavy₁ : List ℕ} {r q : ℕ}
     → Wrote literals 0 (entries (clauses (e .hard) (e .side) t)) r literals₁ → Wrote heavy 0 (weights (clauses (e .hard) (e .side) t)) q heavy₁
-    → Kept (e .side) first first₁ → Kept (e .side) second second₁ → first₂ ≡ scratchLeft (e .side) first₁ → second₂ ≡ scratchLeft (e .side) second₁
+    → first₁ ≡ scratchThrough (e .side) one t (t .pairs) first → second₁ ≡ scratchThrough (e .side) two t (t .pairs) second → first₂ ≡ scratchLeft (e .side) first₁ → second₂ ≡ scratchLeft (e .side) second₁
     → Outcomes (yes e t) first second literals heavy (Encoded.Written (record { literals = r; weights = q })) first₂ second₂ literals₁ heavy₁
 unfolding entryCount
 all-written e t first second first₁ second₁ {r = r} {q = q} a b k l u v =
@@ -115,8 +123,8 @@ all-written e t first second first₁ second₁ {r = r} {q = q} a b k l u v =
     let m : r ≡ length (entries (clauses (e .hard) (e .side) t)) = omega (arith, a .next) in
     record {
       answer = rw (m, n);
-      first-left = u ∙ left-kept (e .side) first first₁ k;
-      second-left = v ∙ left-kept (e .side) second second₁ l;
+      first-left = left (e .side) one t first first₁ k u;
+      second-left = left (e .side) two t second second₁ l v;
       literals-left = a .list;
       weights-left = b .list;
     }

@@ -19,7 +19,7 @@ ghost use Rattle.clause.specs.Ends.{one, two};
 ghost use Rattle.clause.specs.Encodings.{pickedOf};
 ghost use Rattle.clause.specs.List.{clauses};
 ghost use Rattle.clause.specs.Lengths.{clauseCount, entryCount, scratchLength};
-ghost use Rattle.soft.specs.Scratch.{Kept};
+ghost use Rattle.parts.specs.Parts.{scratchThrough};
 ghost use Rattle.encoder.specs.Encoded.{roomFault, fitOf, yes, judgedRoom, verdict, scratchLeft, Outcomes};
 
 // How many literal entries and weights were written.
@@ -81,8 +81,10 @@ fn put_all(
         × (length (entries (clauses part side (tableOf (now words)))) < 2 ^ 64) ⌝ }
     ensures { λ r.
         ⌜ Wrote (now (out .entry)) 0 (entries (clauses part side (tableOf (now (words .entry))))) r (now (out .exit))
-        × Kept side (now (first .entry)) (now (first .exit))
-        × Kept side (now (second .entry)) (now (second .exit)) ⌝ }
+        × (now (first .exit)
+        ≡ scratchThrough side one (tableOf (now (words .entry))) (tableOf (now (words .entry)) .pairs) (now (first .entry)))
+        × (now (second .exit)
+        ≡ scratchThrough side two (tableOf (now (words .entry))) (tableOf (now (words .entry)) .pairs) (now (second .entry))) ⌝ }
 {
     let n = lists::word(words, 0);
     let middle = parts::put_hard(words, n, part, out, 0);

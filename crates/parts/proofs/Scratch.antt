@@ -5,17 +5,20 @@ use Prim.Native.Nat.{ℕ, _+_, _-_, _≤_, _<_, max}
 use native.Mathlib.Nat.{sub-zero, le-trans, le-max-left, le-max-right}
 use lib.ListN.{length}
 use lib.IntN.{ℤ}
+use lib.Seq.{length-sets}
 use Rattle.table.specs.declared.Counts.{Counts}
 use Rattle.table.specs.Table.{Table, Pair}
 use Rattle.table.specs.Words.{pairAt, pairNext, pairsAt, tableOf}
 use Rattle.table.specs.Answers.{Counted}
-use Rattle.table.proofs.Words.{pairs-turn}
+use Rattle.table.proofs.Words.{pairs-turn, pairs-last}
 use Rattle.table.proofs.Tables.{table-pairs, counted-start}
 use Rattle.clause.specs.declared.Side.{Side}
 use Rattle.clause.specs.declared.Side.the-variants.{Direct, Support, First, Literals, Score}
-use Rattle.clause.specs.Ends.{Which}
-use Rattle.clause.specs.Lengths.{longest, candidateLength, scratchLength}
-use Rattle.soft.specs.Scratch.{pairScratch, Kept}
+use Rattle.clause.specs.Clause.{entriesOf}
+use Rattle.clause.specs.Ends.{Which, end, supportClauses}
+use Rattle.clause.specs.Lengths.{longest, scratchLength}
+use Rattle.soft.specs.Scratch.{pairScratch, scratchWith}
+use Rattle.parts.specs.Parts.{scratchThrough}
 
 -- what the pairs ahead ask of an end's slice
 abbrev pub asked : Side → Which → List ℕ → ℕ → ℕ → ℕ
@@ -50,23 +53,37 @@ module _ (s : Side) (w : Which) (ws : List ℕ) (p k at n : ℕ) (l : k < p) (h 
 
 -- ---- what is left
 
-pub kept-all : (s : Side) (l : List ℤ) → Kept s l l
-kept-all Direct l = refl
-kept-all Support l = refl
-kept-all First l = refl
-kept-all Literals l = refl
-kept-all Score l = refl
+-- stores leave a slice as long as it was
+pub with-long : (s : Side) (w : Which) (t : Table) (p : Pair) (old : List ℤ) → length (scratchWith s w t p old) ≡ length old
+with-long Direct w t p old = refl
+with-long Support w t p old = refl
+with-long First w t p old = refl
+with-long Literals w t p old = length-sets old 0 (entriesOf (supportClauses (end t p w) []))
+with-long Score w t p old = length-sets old 0 (entriesOf (supportClauses (end t p w) []))
 
-pub kept-turn : (s : Side) (a b d : List ℤ) → Kept s a b → Kept s b d → Kept s a d
-kept-turn Direct a b d p q = q ∙ p
-kept-turn Support a b d p q = q ∙ p
-kept-turn First a b d p q = q ∙ p
-kept-turn Literals a b d p q = q ∙ p
-kept-turn Score a b d p q = q ∙ p
+pub through-long : (s : Side) (w : Which) (t : Table) (ps : List Pair) (old : List ℤ) → length (scratchThrough s w t ps old) ≡ length old
+through-long s w t [] old = refl
+through-long s w t (p ∷ ps) old = through-long s w t ps (scratchWith s w t p old) ∙ with-long s w t p old
 
-pub kept-long : (s : Side) (a b : List ℤ) → Kept s a b → length b ≡ length a
-kept-long Direct a b p = ap length p
-kept-long Support a b p = ap length p
-kept-long First a b p = ap length p
-kept-long Literals a b p = p
-kept-long Score a b p = p
+-- what the pairs ahead will leave is what all will: of a slice that was `old` and is `now`
+pub record Leaves (s : Side) (w : Which) (ws : List ℕ) (k at : ℕ) (old now : List ℤ) : Type 0 where
+  pub rest : scratchThrough s w (tableOf ws) (pairsAt ws k at) now ≡ scratchThrough s w (tableOf ws) (tableOf ws .pairs) old
+  pub long : length now ≡ length old
+
+module _ (s : Side) (w : Which) (ws : List ℕ) where
+  pub leaves-all : (c : Counts) → Counted ws c → (l : List ℤ) → Leaves s w ws (c .pairs - 0) (c .boxes + 2) l l
+  leaves-all c C l =
+      let b = counted-start ws c C in
+      record { rest = rw (sub-zero, b .pairs, b .boxes, ← table-pairs ws); long = refl }
+
+  pub leaves-turn : (p k at : ℕ) → k < p → {at' : ℕ} {old now new : List ℤ} → at' ≡ pairNext ws at → new ≡ scratchWith s w (tableOf ws) (pairAt ws at) now
+      → Leaves s w ws (p - k) at old now → Leaves s w ws (p - (k + 1)) at' old new
+  leaves-turn p k at l {now = now} n e L =
+      record {
+        rest = rw (n, e) (ap (λ (ps : List Pair). scratchThrough s w (tableOf ws) ps now) (sym (pairs-turn ws p k at l)) ∙ L .rest);
+        long = ap length e ∙ with-long s w (tableOf ws) (pairAt ws at) now ∙ L .long;
+      }
+
+  pub leaves-none : (p k at : ℕ) → p - k ≡ 0 → {old now : List ℤ} → Leaves s w ws (p - k) at old now
+      → now ≡ scratchThrough s w (tableOf ws) (tableOf ws .pairs) old
+  leaves-none p k at z {now = now} L = ap (λ (ps : List Pair). scratchThrough s w (tableOf ws) ps now) (sym (pairs-last ws p k at z)) ∙ L .rest

@@ -15,8 +15,7 @@ ghost use Rattle.clause.specs.Ends.{one, two};
 ghost use Rattle.clause.specs.Hard.{boxClauses};
 ghost use Rattle.clause.specs.List.{hardPart, softPart};
 ghost use Rattle.clause.specs.Lengths.{scratchLength};
-ghost use Rattle.soft.specs.Scratch.{Kept};
-ghost use Rattle.parts.specs.Parts.{pairCount};
+ghost use Rattle.parts.specs.Parts.{pairCount, scratchThrough};
 
 // The hard clauses of box `b`, for a caller that goes part by part.
 pub fn put_box(words: &[u32], n: u32, part: Hard, b: u32, out: &mut [i32], at: usize) -> usize
@@ -111,8 +110,10 @@ pub fn put_soft(
         × (from + length (entries (softPart part side (tableOf (now words)))) < 2 ^ 64) ⌝ }
     ensures { λ r.
         ⌜ Wrote (now (out .entry)) from (entries (softPart part side (tableOf (now (words .entry))))) r (now (out .exit))
-        × Kept side (now (first .entry)) (now (first .exit))
-        × Kept side (now (second .entry)) (now (second .exit)) ⌝ }
+        × (now (first .exit)
+        ≡ scratchThrough side one (tableOf (now (words .entry))) (tableOf (now (words .entry)) .pairs) (now (first .entry)))
+        × (now (second .exit)
+        ≡ scratchThrough side two (tableOf (now (words .entry))) (tableOf (now (words .entry)) .pairs) (now (second .entry))) ⌝ }
 {
     let p = counts.pairs;
     let n = lists::word(words, 0);

@@ -6,6 +6,7 @@ use Prim.Native.Nat.{ℕ, _+_, _^_, _≤_, _<_}
 use native.Mathlib.Omega.{arith}
 use lib.ListN.{length, take, length-append}
 use lib.IntN.{ℤ}
+use lib.Seq.{sets}
 use Rattle.lists.specs.Stores.{Wrote}
 use Rattle.lists.proofs.Stores.{wrote-append, sets-begins}
 use Rattle.table.specs.Table.{Table, Pair}
@@ -18,7 +19,7 @@ use Rattle.clause.specs.Lengths.{candidateLength}
 use Rattle.clause.proofs.Lengths.{entriesOf-append, Small, soft-room}
 use Rattle.choice.specs.Tally.{endTally, secondBy}
 use Rattle.choice.proofs.Choice.{literals-picks, score-picks}
-use Rattle.soft.specs.Scratch.{choosing, chosen, pairScratch}
+use Rattle.soft.specs.Scratch.{choosing, chosen, pairScratch, scratchWith}
 
 -- ---- both ends
 
@@ -106,3 +107,9 @@ pub scratch-holds : (t : Table) (p : Pair) (w : Which) (e : End) → e ≡ end t
 unfolding candidateLength
 scratch-holds t p w e E s true q n h = rw E (rw q at h)
 scratch-holds t p w e E s false q n h = rw E (rw q at h)
+
+-- and is left with that list
+pub scratch-left : (t : Table) (p : Pair) (w : Which) (e : End) → e ≡ end t p w → (s : Side) (k : Bool) → s ≡ choosing k
+    → (old new : List ℤ) → new ≡ sets old 0 (entriesOf (supportClauses e [])) → new ≡ scratchWith s w t p old
+scratch-left t p w e E s true q old new h = rw q (rw E at h)
+scratch-left t p w e E s false q old new h = rw q (rw E at h)

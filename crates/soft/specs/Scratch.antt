@@ -1,15 +1,14 @@
 -- The clauses of the end that is taken, and what a pair asks of the two scratch slices and leaves in them.
 use Prim.Native.Nat.{ℕ}
-use mathlib.Core.Path.{_≡_}
 use mathlib.Core.Bool.{Bool, true, false}
 use mathlib.Core.List.{List, []}
-use lib.ListN.{length}
+use lib.Seq.{sets}
 use lib.IntN.{ℤ}
 use Rattle.table.specs.Table.{Table, Pair}
 use Rattle.clause.specs.declared.Side.{Side}
 use Rattle.clause.specs.declared.Side.the-variants.{Direct, Support, First, Literals, Score}
-use Rattle.clause.specs.Clause.{Clause}
-use Rattle.clause.specs.Ends.{End, Which}
+use Rattle.clause.specs.Clause.{Clause, entriesOf}
+use Rattle.clause.specs.Ends.{End, Which, end, supportClauses}
 use Rattle.clause.specs.Soft.{softWith}
 use Rattle.clause.specs.Lengths.{candidateLength}
 
@@ -29,10 +28,10 @@ pairScratch First w t p = 0
 pairScratch Literals w t p = candidateLength t w p
 pairScratch Score w t p = candidateLength t w p
 
--- a scratch slice is left as it was where nothing is chosen, and else as long as it was
-abbrev pub Kept : Side → List ℤ → List ℤ → Type 0
-Kept Direct old new = new ≡ old
-Kept Support old new = new ≡ old
-Kept First old new = new ≡ old
-Kept Literals old new = length new ≡ length old
-Kept Score old new = length new ≡ length old
+-- what a pair leaves in the scratch slice of an end: on the sides that choose that end's list from the start on, and else what it held
+abbrev pub scratchWith : Side → Which → Table → Pair → List ℤ → List ℤ
+scratchWith Direct w t p old = old
+scratchWith Support w t p old = old
+scratchWith First w t p old = old
+scratchWith Literals w t p old = sets old 0 (entriesOf (supportClauses (end t p w) []))
+scratchWith Score w t p old = sets old 0 (entriesOf (supportClauses (end t p w) []))

@@ -6,6 +6,7 @@ ghost use mathlib.Core.Path.{_≡_};
 ghost use mathlib.Core.List.{[], _∷_};
 ghost use Prim.Native.Nat.{_+_, _^_, _≤_, _<_};
 ghost use lib.ListN.{length};
+ghost use lib.Seq.{sets};
 ghost use Rattle.lists.specs.Stores.{Wrote};
 ghost use Rattle.table.specs.Words.{pairAt, tableOf, Accepted, PairStands};
 ghost use Rattle.clause.specs.declared.Side.the-variants.{Support};
@@ -14,7 +15,7 @@ ghost use Rattle.clause.specs.Ends.{one, two, supportClauses};
 ghost use Rattle.clause.specs.Soft.{softWith, soft};
 ghost use Rattle.ends.specs.Seen.{endOf, SeenWell};
 ghost use Rattle.choice.specs.Tally.{endTally, secondBy};
-ghost use Rattle.soft.specs.Scratch.{chosen, pairScratch, Kept};
+ghost use Rattle.soft.specs.Scratch.{chosen, pairScratch, scratchWith};
 
 // Both ends: the first one's clauses end in the switch, the second one's in its negation.
 fn put_both(words: &[u32], a: Seen, b: Seen, switch: u32, out: &mut [i32], cursor: usize) -> usize
@@ -57,7 +58,8 @@ fn put_chosen(
         ⌜ Wrote (now (out .entry)) cursor
         (entriesOf (chosen «by_score» (endOf (now (words .entry)) a) (endOf (now (words .entry)) b)))
         r (now (out .exit))
-        × (length (now (first .exit)) ≡ length (now (first .entry))) × (length (now (second .exit)) ≡ length (now (second .entry))) ⌝ }
+        × (now (first .exit) ≡ sets (now (first .entry)) 0 (entriesOf (supportClauses (endOf (now (words .entry)) a) [])))
+        × (now (second .exit) ≡ sets (now (second .entry)) 0 (entriesOf (supportClauses (endOf (now (words .entry)) b) []))) ⌝ }
 {
     let la = support::put_support(words, a, Tail::Bare, first, 0);
     let lb = support::put_support(words, b, Tail::Bare, second, 0);
@@ -85,7 +87,8 @@ pub fn put_pair(
         ⌜ Wrote (now (out .entry)) cursor
         (entriesOf (soft side (tableOf (now (words .entry))) (plus switch ∷ []) (minus switch ∷ []) (pairAt (now (words .entry)) at)))
         r (now (out .exit))
-        × Kept side (now (first .entry)) (now (first .exit)) × Kept side (now (second .entry)) (now (second .exit)) ⌝ }
+        × (now (first .exit) ≡ scratchWith side one (tableOf (now (words .entry))) (pairAt (now (words .entry)) at) (now (first .entry)))
+        × (now (second .exit) ≡ scratchWith side two (tableOf (now (words .entry))) (pairAt (now (words .entry)) at) (now (second .entry))) ⌝ }
 {
     let a = pairs::from_first(words, at);
     let b = pairs::turned(a);

@@ -1,8 +1,7 @@
 -- What the pairs ahead have is still owed, with whichever hard part the number of c_1 comes from.
-use Rattle.parts.proofs.Writing.{Writes, writes-all, writes-turn, writes-none, switched}
-use Rattle.parts.proofs.Scratch.{asked, asked-all, asked-now, asked-next, kept-all, kept-turn, kept-long}
-use Rattle.soft.specs.Scratch.{Kept}
 use Rattle.lists.proofs.Stores.{owes-room}
+use Rattle.parts.proofs.Writing.{Writes, writes-all, writes-turn, writes-none, switched}
+use Rattle.parts.proofs.Scratch.{asked, asked-all, asked-now, asked-next, with-long, Leaves, leaves-all, leaves-turn, leaves-none}
 use Rattle.numbers.proofs.Counted.{bases-few}
 use Rattle.clause.proofs.Turns.{soft-text}
 use Rattle.clause.specs.List.{pairClauses}
@@ -16,7 +15,7 @@ use lib.ListN.{length}
 use Prim.Native.Nat.{_+_, _-_, _≤_}
 use native.Mathlib.Nat.{sub-zero}
 use native.Mathlib.Omega.{arith}
-use mathlib.Core.Path.{_≡_}
+use mathlib.Core.Path.{_≡_, ap, _∙_}
 use borrow.Author.Needs.{needs}
 use Rattle.parts.proofs.put_soft.Statement.{statement}
 use Rattle.parts.proofs.put_soft.Tie as tie
@@ -30,8 +29,8 @@ Inv-loop words side first₀ second₀ out₀ from p n switch₀ cursor₀ at₀
     × Writes side words p out₀ from switch₀ out cursor at k
     × (asked side one words (p - k) at ≤ length first)
     × (asked side two words (p - k) at ≤ length second)
-    × Kept side first₀ first
-    × Kept side second₀ second
+    × Leaves side one words (p - k) at first₀ first
+    × Leaves side two words (p - k) at second₀ second
 
 abbrev μ-loop : tie.MeasureT-loop
 μ-loop words side first₀ second₀ out₀ from p n switch₀ cursor₀ at₀ k₀ first second out switch cursor at k = p - k
@@ -62,8 +61,8 @@ loop-holds c =
       writes-all side ws n (s .pre .0),
       rw (asked-all side one ws n (s .pre .0)) (s .pre .1),
       rw (asked-all side two ws n (s .pre .0)) (s .pre .2),
-      kept-all side _,
-      kept-all side _,
+      leaves-all side one ws n (s .pre .0) _,
+      leaves-all side two ws n (s .pre .0) _,
     )
 
 add-switch : tie.Need-add-switch Inv-loop μ-loop
@@ -124,8 +123,8 @@ loop-again c =
     let side = s .args .side in
     let wrote = c .before .before .before .before .put-pair .ensures in
     let next = c .next-pair .ensures in
-    let long-first = kept-long side _ _ (wrote .1) in
-    let long-second = kept-long side _ _ (wrote .2) in (
+    let long-first = ap length (wrote .1) ∙ with-long side one t (pairAt ws (l .loop .at)) _ in
+    let long-second = ap length (wrote .2) ∙ with-long side two t (pairAt ws (l .loop .at)) _ in (
       omega (arith, c .before .before .before .before .before .before .before .before .loop-test .taken),
       l .loop .inv .1,
       rw next (turn .1),
@@ -133,27 +132,15 @@ loop-again c =
       writes-turn side ws p (l .loop .k) (l .loop .at) (c .before .before .before .before .before .before .before .before .loop-test .taken) (l .loop .inv .3) next (wrote .0) (l .loop .inv .4),
       rw (next, long-first) (asked-next side one ws p (l .loop .k) (l .loop .at) _ (c .before .before .before .before .before .before .before .before .loop-test .taken) (l .loop .inv .5)),
       rw (next, long-second) (asked-next side two ws p (l .loop .k) (l .loop .at) _ (c .before .before .before .before .before .before .before .before .loop-test .taken) (l .loop .inv .6)),
-      kept-turn side _ _ _ (l .loop .inv .7) (wrote .1),
-      kept-turn side _ _ _ (l .loop .inv .8) (wrote .2),
+      leaves-turn side one ws p (l .loop .k) (l .loop .at) (c .before .before .before .before .before .before .before .before .loop-test .taken) next (wrote .1) (l .loop .inv .7),
+      leaves-turn side two ws p (l .loop .k) (l .loop .at) (c .before .before .before .before .before .before .before .before .loop-test .taken) next (wrote .2) (l .loop .inv .8),
     )
 
 same-length : tie.Need-same-length Inv-loop μ-loop
-same-length c =
-    let l = c .before in
-    let s = l .before .before .before .before .before in
-    let ws = s .args .words .now in
-    let p = s .args .counts .pairs in
-    let t = tableOf ws in
-    kept-long (s .args .side) _ _ (l .loop .inv .7)
+same-length c = c .before .loop .inv .7 .long
 
 same-length-2 : tie.Need-same-length-2 Inv-loop μ-loop
-same-length-2 c =
-    let l = c .before in
-    let s = l .before .before .before .before .before in
-    let ws = s .args .words .now in
-    let p = s .args .counts .pairs in
-    let t = tableOf ws in
-    kept-long (s .args .side) _ _ (l .loop .inv .8)
+same-length-2 c = c .before .loop .inv .8 .long
 
 same-length-3 : tie.Need-same-length-3 Inv-loop μ-loop
 same-length-3 c = c .before .loop .inv .4 .long
@@ -166,7 +153,11 @@ returns c =
     let p = s .args .counts .pairs in
     let t = tableOf ws in
     let z : p - l .loop .k ≡ 0 = omega (arith, c .loop-test .left) in
-    (writes-none (s .args .side) ws (s .args .part) z (l .before .before .switch-base .ensures) (l .loop .inv .4), l .loop .inv .7, l .loop .inv .8)
+    let side = s .args .side in (
+      writes-none side ws (s .args .part) z (l .before .before .switch-base .ensures) (l .loop .inv .4),
+      leaves-none side one ws p (l .loop .k) (l .loop .at) z (l .loop .inv .7),
+      leaves-none side two ws p (l .loop .k) (l .loop .at) z (l .loop .inv .8),
+    )
 
 pub put-soft-spec : {M : Type 1} → statement M
 put-soft-spec =

@@ -4,7 +4,6 @@ use Rattle.soft.proofs.Parts.{end-short, handed-on}
 use Rattle.pairs.proofs.Sums.{seen-small}
 use Rattle.ends.specs.Seen.{endOf}
 use Rattle.clause.specs.Clause.{entriesOf}
-use Rattle.lists.proofs.Stores.{wrote-long}
 use mathlib.Core.Path.{_≡_}
 use borrow.Author.Needs.{needs}
 use Rattle.soft.proofs.put_chosen.Statement.{statement}
@@ -57,7 +56,7 @@ returns c =
     let b = r .before .before in
     let q = b .before .before .before .before .before in
     let p = q .before .before .before in
-    (rw (part-is b) at (r .put-part .ensures), wrote-long (p .put-support .ensures), wrote-long (q .put-support2 .ensures))
+    (rw (part-is b) at (r .put-part .ensures), p .put-support .ensures .list, q .put-support2 .ensures .list)
 
 pub put-chosen-spec : {M : Type 1} → statement M
 put-chosen-spec =

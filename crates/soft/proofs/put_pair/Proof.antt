@@ -1,5 +1,5 @@
 -- By the side, from the ends that were seen.
-use Rattle.soft.proofs.Parts.{direct-is, support-is, first-is, chosen-is, room-as, wrote-as, scratch-holds}
+use Rattle.soft.proofs.Parts.{direct-is, support-is, first-is, chosen-is, room-as, wrote-as, scratch-holds, scratch-left}
 use Rattle.pairs.specs.Pairs.{turnedOf}
 use Rattle.pairs.proofs.Sight.{Sees, sees}
 use Rattle.clause.specs.Ends.{one, two}
@@ -154,8 +154,11 @@ returns-4 c =
     let A = first m in
     let B = second m in
     let q = e .enum-told4 .given .1 in
-    let w = p .put-chosen .ensures in
-    (wrote-as (chosen-is _ _ _ _ (A .is) (B .is) _ _ (s .args .side) false q) (w .0), rw q (w .1), rw q (w .2))
+    let w = p .put-chosen .ensures in (
+      wrote-as (chosen-is _ _ _ _ (A .is) (B .is) _ _ (s .args .side) false q) (w .0),
+      scratch-left _ _ _ _ (A .is) (s .args .side) false q _ _ (w .1),
+      scratch-left _ _ _ _ (B .is) (s .args .side) false q _ _ (w .2),
+    )
 
 same-length-7 : tie.Need-same-length-7
 same-length-7 c = search needs
@@ -175,8 +178,11 @@ returns-5 c =
     let A = first m in
     let B = second m in
     let q = e .enum-told5 .given .1 in
-    let w = p .put-chosen2 .ensures in
-    (wrote-as (chosen-is _ _ _ _ (A .is) (B .is) _ _ (s .args .side) true q) (w .0), rw q (w .1), rw q (w .2))
+    let w = p .put-chosen2 .ensures in (
+      wrote-as (chosen-is _ _ _ _ (A .is) (B .is) _ _ (s .args .side) true q) (w .0),
+      scratch-left _ _ _ _ (A .is) (s .args .side) true q _ _ (w .1),
+      scratch-left _ _ _ _ (B .is) (s .args .side) true q _ _ (w .2),
+    )
 
 pub put-pair-spec : {M : Type 1} → statement M
 put-pair-spec =
