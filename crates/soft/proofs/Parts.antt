@@ -62,7 +62,7 @@ module _ (a b : End) where
   taken false o p = rw (literals-picks a b, ← p) (one-of o)
 
 -- a slice begins with the list that was written at its start, if it holds it
-begins : {vs old new : List ℤ} {r : ℕ} → Wrote old 0 vs r new → length vs ≤ length old → take r new ≡ vs
+pub begins : {vs old new : List ℤ} {r : ℕ} → Wrote old 0 vs r new → length vs ≤ length old → take r new ≡ vs
 begins {vs} {old} {new} {r} w h =
     let e : length vs ≡ r = omega (arith, w .next) in
     rw (w .list) (sets-begins vs old r e (omega arith))

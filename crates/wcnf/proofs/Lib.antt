@@ -1,0 +1,4 @@
+pub mod Lines
+pub mod Signed
+pub mod Named
+pub mod Parts

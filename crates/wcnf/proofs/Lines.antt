@@ -1,0 +1,65 @@
+-- How long the header and an entry's text are and can be, and the text of entries one by one.
+use mathlib.Core.Path.{_≡_, refl, ap, _∙_}
+use mathlib.Core.List.{List, [], _∷_, _++_}
+use Prim.Native.Nat.{ℕ, zero, suc, _+_, _^_, _≤_, _<_}
+use native.Mathlib.Numerals.{add-one}
+use native.Mathlib.Omega.{arith}
+use lib.ListN.{length, getD, drop, length-append, drop-of-length-le}
+use lib.Seq.{drop-cons}
+use lib.IntN.{ℤ, pos, negsuc}
+use mir.Syntax.{w32}
+use mir.Val.{SFits}
+use Rattle.lists.specs.Decimal.{digits, signed}
+use Rattle.lists.proofs.Decimal.{length-digits}
+use Rattle.wcnf.specs.Wcnf.{ended, headerText}
+use Rattle.wcnf.specs.Entries.{opening, closing, entryText, entriesFrom}
+
+pub length-ended : (n b : ℕ) → length (ended n b) ≡ length (digits n) + 1
+unfolding ended
+length-ended n b = simp length-append (omega arith)
+
+pub length-header : (v c t : ℕ) → length (headerText v c t) ≡ 7 + (length (ended v 32) + (length (ended c 32) + length (ended t 10)))
+unfolding headerText
+length-header v c t = simp length-append (omega arith)
+
+pub length-entry : (w : ℕ) (past v : ℤ) → length (entryText w past v) ≡ length (opening w past) + (1 + (length (signed v) + length (closing v)))
+length-entry w past v = simp length-append (omega arith)
+
+-- ---- what none of them exceeds
+
+-- a number of 64 bits has at most 20 digits
+digits-few : (n : ℕ) → n < 2 ^ 64 → length (digits n) ≤ 20
+digits-few n h = length-digits 19 n (omega arith)
+
+pub header-short : (v c t : ℕ) → v < 2 ^ 64 → c < 2 ^ 64 → t < 2 ^ 64 → length (headerText v c t) ≤ 128
+header-short v c t a b d =
+    omega (arith, length-header v c t, length-ended v 32, length-ended c 32, length-ended t 10, digits-few v a, digits-few c b, digits-few t d)
+
+opening-short : (w : ℕ) → w < 2 ^ 64 → (past : ℤ) → length (opening w past) ≤ 20
+opening-short w h (pos zero) = digits-few w h
+opening-short w h (pos (suc n)) = omega arith
+opening-short w h (negsuc n) = omega arith
+
+closing-short : (v : ℤ) → length (closing v) ≤ 1
+closing-short (pos zero) = omega arith
+closing-short (pos (suc n)) = omega arith
+closing-short (negsuc n) = omega arith
+
+signed-short : (v : ℤ) → SFits w32 v → length (signed v) ≤ 21
+unfolding signed
+signed-short (pos n) f = let d = digits-few n (omega (arith, f .sfits)) in omega arith
+signed-short (negsuc n) f = let d = digits-few (suc n) (omega (arith, f .sfits)) in omega arith
+
+pub entry-short : (w : ℕ) (past v : ℤ) → w < 2 ^ 64 → SFits w32 v → length (entryText w past v) ≤ 64
+entry-short w past v h f = omega (arith, length-entry w past v, opening-short w h past, closing-short v, signed-short v f)
+
+-- ---- a turn of the loop over the entries, of which i are put
+
+pub entries-turn : (w : ℕ) (past : ℤ) (vs : List ℤ) (i : ℕ) → i < length vs
+    → entriesFrom w past (drop i vs) ≡ entryText w past (getD vs i (pos 0)) ++ entriesFrom w (getD vs i (pos 0)) (drop (i + 1) vs)
+entries-turn w past vs i h =
+    let e : drop i vs ≡ getD vs i (pos 0) ∷ drop (i + 1) vs = rw add-one (drop-cons vs i (pos 0) h) in
+    ap (entriesFrom w past) e
+
+pub entries-end : (w : ℕ) (past : ℤ) (vs : List ℤ) (i : ℕ) → length vs ≤ i → entriesFrom w past (drop i vs) ≡ []
+entries-end w past vs i h = ap (entriesFrom w past) (drop-of-length-le vs {i = i} h)

@@ -1,0 +1,2 @@
+pub mod Wcnf
+pub mod Entries

@@ -1,0 +1,117 @@
+// The lines of WCNF text (specs/), put into a lent slice of bytes from clauses as they stand in a clause list.
+ghost use mathlib.Core.Path.{_≡_};
+ghost use Prim.Native.Nat.{_+_, _*_, _^_, _≤_, _<_};
+ghost use lib.ListN.{length, take};
+ghost use lib.IntN.{natAbs};
+ghost use Rattle.lists.specs.Stores.{Wrote};
+ghost use Rattle.lists.specs.Decimal.{signed};
+ghost use Rattle.wcnf.specs.Wcnf.{ended, headerText};
+ghost use Rattle.wcnf.specs.Entries.{sign, opening, closing, entryText, entriesText};
+
+// A number and the byte that ends it.
+fn put_ended(out: &mut [u8], at: usize, n: u64, b: u8) -> usize
+    requires { ⌜ at + length (ended n b) < 2 ^ 64 ⌝ }
+    ensures { λ r. ⌜ Wrote (now (out .entry)) at (ended n b) r (now (out .exit)) ⌝ }
+{
+    let end = text_out::put_number(out, at, n);
+    text_out::put_byte(out, end, b)
+}
+
+// p wcnf V C T: variables, clauses and top.
+pub fn put_header(out: &mut [u8], at: usize, variables: u64, clauses: u64, top: u64) -> usize
+    requires { ⌜ at + 128 < 2 ^ 64 ⌝ }
+    ensures { λ r. ⌜ Wrote (now (out .entry)) at (headerText variables clauses top) r (now (out .exit)) × (r ≤ at + 128) ⌝ }
+{
+    let one = text_out::put_bytes(out, at, b"p wcnf ");
+    let two = put_ended(out, one, variables, 32);
+    let three = put_ended(out, two, clauses, 32);
+    put_ended(out, three, top, 10)
+}
+
+// A signed number without its sign.
+fn magnitude(v: i32) -> u64
+    ensures { λ r. ⌜ r ≡ natAbs v ⌝ }
+{
+    if v < 0 {
+        return -(v as i64) as u64;
+    }
+    v as u64
+}
+
+fn put_sign(out: &mut [u8], at: usize, v: i32) -> usize
+    requires { ⌜ at + length (sign v) < 2 ^ 64 ⌝ }
+    ensures { λ r. ⌜ Wrote (now (out .entry)) at (sign v) r (now (out .exit)) ⌝ }
+{
+    if v < 0 {
+        return text_out::put_byte(out, at, 45);
+    }
+    at
+}
+
+// A signed number.
+fn put_signed(out: &mut [u8], at: usize, v: i32) -> usize
+    requires { ⌜ at + length (signed v) < 2 ^ 64 ⌝ }
+    ensures { λ r. ⌜ Wrote (now (out .entry)) at (signed v) r (now (out .exit)) ⌝ }
+{
+    let number = put_sign(out, at, v);
+    text_out::put_number(out, number, magnitude(v))
+}
+
+// The weight, where the entry before closes a clause.
+fn put_opening(out: &mut [u8], at: usize, weight: u64, past: i32) -> usize
+    requires { ⌜ at + length (opening weight past) < 2 ^ 64 ⌝ }
+    ensures { λ r. ⌜ Wrote (now (out .entry)) at (opening weight past) r (now (out .exit)) ⌝ }
+{
+    if past == 0 {
+        return text_out::put_number(out, at, weight);
+    }
+    at
+}
+
+// The line feed, where the entry closes its clause.
+fn put_closing(out: &mut [u8], at: usize, v: i32) -> usize
+    requires { ⌜ at + length (closing v) < 2 ^ 64 ⌝ }
+    ensures { λ r. ⌜ Wrote (now (out .entry)) at (closing v) r (now (out .exit)) ⌝ }
+{
+    if v == 0 {
+        return text_out::put_byte(out, at, 10);
+    }
+    at
+}
+
+// An entry that follows the entry `past`.
+fn put_entry(out: &mut [u8], at: usize, weight: u64, past: i32, v: i32) -> usize
+    requires { ⌜ at + length (entryText weight past v) < 2 ^ 64 ⌝ }
+    ensures { λ r. ⌜ Wrote (now (out .entry)) at (entryText weight past v) r (now (out .exit)) ⌝ }
+{
+    let space = put_opening(out, at, weight, past);
+    let number = text_out::put_byte(out, space, 32);
+    let close = put_signed(out, number, v);
+    put_closing(out, close, v)
+}
+
+// A line for each clause of `part`, all of one weight. No entry takes more than 64 bytes.
+fn put_lines(out: &mut [u8], from: usize, weight: u64, part: &[i32]) -> usize
+    requires { ⌜ from + 64 * length (now part) < 2 ^ 64 ⌝ }
+    ensures { λ r. ⌜ Wrote (now (out .entry)) from (entriesText weight (now (part .entry))) r (now (out .exit))
+        × (r ≤ from + 64 * length (now (part .entry))) ⌝ }
+{
+    let mut at = from;
+    let mut past = 0;
+    let mut i = 0;
+    while i < part.len() {
+        let v = part[i];
+        at = put_entry(out, at, weight, past, v);
+        past = v;
+        i += 1;
+    }
+    at
+}
+
+// A line for each clause of the first `long` entries, all of one weight.
+pub fn put_clauses(out: &mut [u8], from: usize, weight: u64, entries: &[i32], long: usize) -> usize
+    requires { ⌜ (long ≤ length (now entries)) × (from + 64 * long < 2 ^ 64) ⌝ }
+    ensures { λ r. ⌜ Wrote (now (out .entry)) from (entriesText weight (take long (now (entries .entry)))) r (now (out .exit)) × (r ≤ from + 64 * long) ⌝ }
+{
+    put_lines(out, from, weight, &entries[..long])
+}
