@@ -93,7 +93,8 @@ left-through First w t (p ∷ ps) old = left-through First w t ps old
 left-through Literals w t ps old = zeros-long (scratchThrough Literals w t ps old) old (through-long Literals w t ps old)
 left-through Score w t ps old = zeros-long (scratchThrough Score w t ps old) old (through-long Score w t ps old)
 
-left : (s : Side) (w : Which) (t : Table) (old mid : List ℤ) {new : List ℤ} → mid ≡ scratchThrough s w t (t .pairs) old → new ≡ scratchLeft s mid → new ≡ scratchLeft s old
+-- what the pairs put in and tidying takes out again
+pub left : (s : Side) (w : Which) (t : Table) (old mid : List ℤ) {new : List ℤ} → mid ≡ scratchThrough s w t (t .pairs) old → new ≡ scratchLeft s mid → new ≡ scratchLeft s old
 left s w t old mid e f = f ∙ ap (scratchLeft s) e ∙ left-through s w t (t .pairs) old
 
 -- ---- the judgement of the room

@@ -102,7 +102,7 @@ fn weigh_all(words: &[u32], counts: Counts, part: Hard, side: Side, out: &mut [u
 }
 
 // A scratch slice after use: zero whole on the sides that choose, untouched on the others.
-fn tidy(side: Side, scratch: &mut [i32])
+pub fn tidy(side: Side, scratch: &mut [i32])
     ensures { λ _. ⌜ now (scratch .exit) ≡ scratchLeft side (now (scratch .entry)) ⌝ }
 {
     match side {

@@ -12,7 +12,7 @@ use mir.Val.{SFits}
 use Rattle.lists.specs.Decimal.{digits, signed}
 use Rattle.lists.proofs.Decimal.{length-digits}
 use Rattle.wcnf.specs.Wcnf.{ended, headerText}
-use Rattle.wcnf.specs.Entries.{opening, closing, entryText, entriesFrom}
+use Rattle.wcnf.specs.Entries.{opening, ending, entryText, entriesFrom}
 
 pub length-ended : (n b : ℕ) → length (ended n b) ≡ length (digits n) + 1
 unfolding ended
@@ -22,7 +22,7 @@ pub length-header : (v c t : ℕ) → length (headerText v c t) ≡ 7 + (length 
 unfolding headerText
 length-header v c t = simp length-append (omega arith)
 
-pub length-entry : (w : ℕ) (past v : ℤ) → length (entryText w past v) ≡ length (opening w past) + (1 + (length (signed v) + length (closing v)))
+pub length-entry : (w : ℕ) (past v : ℤ) → length (entryText w past v) ≡ length (opening w past) + (1 + length (ending v))
 length-entry w past v = simp length-append (omega arith)
 
 -- ---- what none of them exceeds
@@ -40,18 +40,14 @@ opening-short w h (pos zero) = digits-few w h
 opening-short w h (pos (suc n)) = omega arith
 opening-short w h (negsuc n) = omega arith
 
-closing-short : (v : ℤ) → length (closing v) ≤ 1
-closing-short (pos zero) = omega arith
-closing-short (pos (suc n)) = omega arith
-closing-short (negsuc n) = omega arith
-
-signed-short : (v : ℤ) → SFits w32 v → length (signed v) ≤ 21
+ending-short : (v : ℤ) → SFits w32 v → length (ending v) ≤ 21
 unfolding signed
-signed-short (pos n) f = let d = digits-few n (omega (arith, f .sfits)) in omega arith
-signed-short (negsuc n) f = let d = digits-few (suc n) (omega (arith, f .sfits)) in omega arith
+ending-short (pos zero) f = omega arith
+ending-short (pos (suc n)) f = let d = digits-few (suc n) (omega (arith, f .sfits)) in omega arith
+ending-short (negsuc n) f = let d = digits-few (suc n) (omega (arith, f .sfits)) in omega arith
 
 pub entry-short : (w : ℕ) (past v : ℤ) → w < 2 ^ 64 → SFits w32 v → length (entryText w past v) ≤ 64
-entry-short w past v h f = omega (arith, length-entry w past v, opening-short w h past, closing-short v, signed-short v f)
+entry-short w past v h f = omega (arith, length-entry w past v, opening-short w h past, ending-short v f)
 
 -- ---- a turn of the loop over the entries, of which i are put
 

@@ -1,10 +1,10 @@
 -- The clauses of a part, put from their entries, are the clauses' lines; and the lines of the whole list are those of its parts.
 use mathlib.Core.Path.{_≡_, refl, sym, ap, ap₂, _∙_}
-use mathlib.Core.List.{List, [], _∷_, _++_, map, flatMap, append-assoc, append-nil}
+use mathlib.Core.List.{List, [], _∷_, _++_, map, flatMap, append-assoc}
 use Prim.Native.Nat.{ℕ, zero, suc, _≤_}
 use native.Mathlib.Omega.{arith}
 use lib.IntN.{ℤ, pos}
-use Rattle.lists.specs.Decimal.{fueled, digits, signed}
+use Rattle.lists.specs.Decimal.{digits, signed}
 use Rattle.lists.proofs.Lists.{flat-append}
 use Rattle.table.specs.Table.{Table}
 use Rattle.clause.specs.declared.Hard.{Hard}
@@ -12,33 +12,33 @@ use Rattle.clause.specs.declared.Side.{Side}
 use Rattle.clause.specs.Clause.{Lit, plus, minus, coded, Clause, Weighted, weigh, closed, entriesOf}
 use Rattle.clause.specs.List.{hardPart, softPart, clauses}
 use Rattle.wcnf.specs.Wcnf.{literalText, clauseLine, linesOf, shown, bodyText}
-use Rattle.wcnf.specs.Entries.{opening, closing, entryText, entriesFrom, entriesText}
+use Rattle.wcnf.specs.Entries.{opening, ending, entryText, entriesFrom, entriesText}
 use Rattle.wcnf.proofs.Named.{number, Named, AllNamed}
 
 -- ---- from the entries
 
 module _ (w : ℕ) where
-  -- a literal neither closes its clause nor is followed by a weight
+  -- a literal is not followed by a weight, and ends no line
   opens-none : (l : Lit) → 1 ≤ number l → opening w (coded l) ≡ []
   opens-none (plus zero) h = absurd (omega arith)
   opens-none (plus (suc v)) h = refl
   opens-none (minus zero) h = absurd (omega arith)
   opens-none (minus (suc v)) h = refl
 
-  closes-none : (l : Lit) → 1 ≤ number l → closing (coded l) ≡ []
-  closes-none (plus zero) h = absurd (omega arith)
-  closes-none (plus (suc v)) h = refl
-  closes-none (minus zero) h = absurd (omega arith)
-  closes-none (minus (suc v)) h = refl
+  literal-ends : (l : Lit) → 1 ≤ number l → ending (coded l) ≡ signed (coded l)
+  literal-ends (plus zero) h = absurd (omega arith)
+  literal-ends (plus (suc v)) h = refl
+  literal-ends (minus zero) h = absurd (omega arith)
+  literal-ends (minus (suc v)) h = refl
 
   goes-on : (past : ℤ) → opening w past ≡ [] → (l : Lit) → 1 ≤ number l → entryText w past (coded l) ≡ literalText l
   unfolding literalText
-  goes-on past o l h = rw (o, closes-none l h) (ap (λ (t : List ℕ). 32 ∷ t) (append-nil (signed (coded l))))
+  goes-on past o l h = rw (o, literal-ends l h)
 
   -- a clause that was begun, and what comes after it
   begun : (past : ℤ) → opening w past ≡ [] → (c : Clause) → Named c → (rest : List ℤ)
       → entriesFrom w past (closed c ++ rest) ≡ flatMap literalText c ++ (32 ∷ 48 ∷ 10 ∷ entriesFrom w (pos 0) rest)
-  unfolding signed digits fueled flatMap
+  unfolding flatMap
   begun past o [] n rest = rw o
   begun past o (l ∷ c) n rest =
       ap₂ (λ (a b : List ℕ). a ++ b) (goes-on past o l (n .0)) (begun (coded l) (opens-none l (n .0)) c (n .1) rest)

@@ -15,7 +15,7 @@ use mir.Val.{Fits, SFits, toZ, ofZ}
 use mir.ValLaws.{toZ-ofZ}
 use Rattle.lists.specs.Decimal.{digits, signed}
 use Rattle.lists.proofs.Truth.{clash}
-use Rattle.wcnf.specs.Entries.{sign, opening, closing}
+use Rattle.wcnf.specs.Entries.{sign, opening, ending}
 
 -- ---- as it is passed on
 
@@ -91,10 +91,10 @@ goes-on w (pos zero) h = absurd (h refl)
 goes-on w (pos (suc n)) h = refl
 goes-on w (negsuc n) h = refl
 
-pub closes : (z : ℤ) → z ≡ pos 0 → closing z ≡ 10 ∷ []
+pub closes : (z : ℤ) → z ≡ pos 0 → ending z ≡ 48 ∷ 10 ∷ []
 closes z e = rw e
 
-pub stays : (z : ℤ) → z ≢ pos 0 → closing z ≡ []
+pub stays : (z : ℤ) → z ≢ pos 0 → ending z ≡ signed z
 stays (pos zero) h = absurd (h refl)
 stays (pos (suc n)) h = refl
 stays (negsuc n) h = refl

@@ -9,11 +9,11 @@ abbrev pub sign : ℤ → List ℕ
 sign (pos v) = []
 sign (negsuc v) = 45 ∷ []
 
--- what follows the entry v: a line feed if v closes its clause
-abbrev pub closing : ℤ → List ℕ
-closing (pos zero) = 10 ∷ []
-closing (pos (suc v)) = []
-closing (negsuc v) = []
+-- an entry after its space: a literal, or the 0 that closes its clause and ends the line
+abbrev pub ending : ℤ → List ℕ
+ending (pos zero) = 48 ∷ 10 ∷ []
+ending (pos (suc v)) = signed (pos (suc v))
+ending (negsuc v) = signed (negsuc v)
 
 -- what goes before an entry that follows the entry v: the weight if v closes the clause before
 abbrev pub opening : ℕ → ℤ → List ℕ
@@ -23,7 +23,7 @@ opening w (negsuc v) = []
 
 -- an entry that follows the entry `past`
 abbrev pub entryText : ℕ → (past v : ℤ) → List ℕ
-entryText w past v = opening w past ++ (32 ∷ (signed v ++ closing v))
+entryText w past v = opening w past ++ (32 ∷ ending v)
 
 abbrev pub entriesFrom : ℕ → (past : ℤ) → List ℤ → List ℕ
 entriesFrom w past [] = []

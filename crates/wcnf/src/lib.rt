@@ -6,7 +6,7 @@ ghost use lib.IntN.{natAbs};
 ghost use Rattle.lists.specs.Stores.{Wrote};
 ghost use Rattle.lists.specs.Decimal.{signed};
 ghost use Rattle.wcnf.specs.Wcnf.{ended, headerText};
-ghost use Rattle.wcnf.specs.Entries.{sign, opening, closing, entryText, entriesText};
+ghost use Rattle.wcnf.specs.Entries.{sign, opening, ending, entryText, entriesText};
 
 // A number and the byte that ends it.
 fn put_ended(out: &mut [u8], at: usize, n: u64, b: u8) -> usize
@@ -68,15 +68,15 @@ fn put_opening(out: &mut [u8], at: usize, weight: u64, past: i32) -> usize
     at
 }
 
-// The line feed, where the entry closes its clause.
-fn put_closing(out: &mut [u8], at: usize, v: i32) -> usize
-    requires { ⌜ at + length (closing v) < 2 ^ 64 ⌝ }
-    ensures { λ r. ⌜ Wrote (now (out .entry)) at (closing v) r (now (out .exit)) ⌝ }
+// An entry after its space: a literal, or the 0 that closes its clause and ends the line.
+fn put_ending(out: &mut [u8], at: usize, v: i32) -> usize
+    requires { ⌜ at + length (ending v) < 2 ^ 64 ⌝ }
+    ensures { λ r. ⌜ Wrote (now (out .entry)) at (ending v) r (now (out .exit)) ⌝ }
 {
     if v == 0 {
-        return text_out::put_byte(out, at, 10);
+        return text_out::put_bytes(out, at, b"0\n");
     }
-    at
+    put_signed(out, at, v)
 }
 
 // An entry that follows the entry `past`.
@@ -86,8 +86,7 @@ fn put_entry(out: &mut [u8], at: usize, weight: u64, past: i32, v: i32) -> usize
 {
     let space = put_opening(out, at, weight, past);
     let number = text_out::put_byte(out, space, 32);
-    let close = put_signed(out, number, v);
-    put_closing(out, close, v)
+    put_ending(out, number, v)
 }
 
 // A line for each clause of `part`, all of one weight. No entry takes more than 64 bytes.

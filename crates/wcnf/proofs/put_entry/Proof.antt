@@ -1,4 +1,4 @@
--- The weight where one is due, a space, the number, the line feed where one is due.
+-- The weight where one is due, a space, and the entry.
 use Rattle.lists.proofs.Stores.{wrote-append}
 use Rattle.wcnf.proofs.Signed.{back}
 use Rattle.wcnf.proofs.Lines.{length-entry}
@@ -19,47 +19,29 @@ put-byte-requires c κs =
     let put = rw (back (s .args .past) (s .fits .past)) at (d .put-opening .ensures) in
     omega (arith, s .pre, length-entry (s .args .weight) (s .args .past) (s .args .v), put .next)
 
-put-signed-requires : tie.Need-put-signed-requires
-put-signed-requires c κs =
+put-ending-requires : tie.Need-put-ending-requires
+put-ending-requires c κs =
     let e = c .before .before .before in
     let d = e .before .before .before .before in
     let s = d .before .before .before in
     let put = rw (back (s .args .past) (s .fits .past)) at (d .put-opening .ensures) in
-    rw (back (s .args .v) (s .fits .v)) (omega (arith, s .pre, length-entry (s .args .weight) (s .args .past) (s .args .v), put .next, e .put-byte .ensures .next))
-
-put-closing-requires : tie.Need-put-closing-requires
-put-closing-requires c κs =
-    let f = c .before .before .before in
-    let e = f .before .before .before .before in
-    let d = e .before .before .before .before in
-    let s = d .before .before .before in
-    let v = back (s .args .v) (s .fits .v) in
-    let put = rw (back (s .args .past) (s .fits .past)) at (d .put-opening .ensures) in
-    let number = rw v at (f .put-signed .ensures) in
     let long = length-entry (s .args .weight) (s .args .past) (s .args .v) in
-    rw v (omega (arith, s .pre, long, put .next, e .put-byte .ensures .next, number .next))
+    rw (back (s .args .v) (s .fits .v)) (omega (arith, s .pre, long, put .next, e .put-byte .ensures .next))
 
 same-length : tie.Need-same-length
 same-length c = search needs
 
 returns : tie.Need-returns
 returns c =
-    let g = c .before .before in
-    let f = g .before .before .before .before in
+    let f = c .before .before in
     let e = f .before .before .before .before in
     let d = e .before .before .before .before in
     let s = d .before .before .before in
-    let v = back (s .args .v) (s .fits .v) in
     let put = rw (back (s .args .past) (s .fits .past)) at (d .put-opening .ensures) in
-    wrote-append put (wrote-append (e .put-byte .ensures) (wrote-append (rw v at (f .put-signed .ensures)) (rw v at (g .put-closing .ensures))))
+    let last = rw (back (s .args .v) (s .fits .v)) at (f .put-ending .ensures) in
+    wrote-append put (wrote-append (e .put-byte .ensures) last)
 
 pub put-entry-spec : {M : Type 1} → statement M
 put-entry-spec =
     tie.close
-    (tie.spec
-    put-opening-requires
-    put-byte-requires
-    put-signed-requires
-    put-closing-requires
-    same-length
-    returns)
+    (tie.spec put-opening-requires put-byte-requires put-ending-requires same-length returns)
