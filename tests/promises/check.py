@@ -6,7 +6,8 @@ import sys
 from pathlib import Path
 
 crates = {line.split(':')[0] for line in Path('crates.txt').read_text().splitlines() if re.match(r'\w+:', line)}
-functions = {(c, f) for c in crates for file in Path('crates', c, 'src').glob('**/*.rt')
+libraries = {c for c in crates if not Path('crates', c, 'src/main.rt').exists()}  # nothing calls into a program
+functions = {(c, f) for c in libraries for file in Path('crates', c, 'src').glob('**/*.rt')
              for f in re.findall(r'^pub fn (\w+)', file.read_text(), re.M)}
 edits = {(c, file.stem) for c in crates for file in Path('crates', c, 'must-fail').glob('*.edit')}
 

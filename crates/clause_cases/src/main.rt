@@ -1,8 +1,11 @@
 // The examples of document 01 and of the papers: what the encoder, the decoder and the list maker answer. Held to the file stdout.
+mod room;
+
 use decoder::Decoded;
 use decoder::Made;
 use encoder::Encoded;
 use measure::Measured;
+use measure::Needed;
 
 // The sign and the number of an entry whose number is v.
 fn show_if(entry: i32, v: u32) {
@@ -106,6 +109,19 @@ fn show_lengths(name: &[u8], words: &[u32], hard: u32, side: u32) {
     }
 }
 
+fn show_scratch(name: &[u8], words: &[u32], hard: u32, side: u32) {
+    says::text(name);
+    match measure::scratch_lengths(words, hard, side) {
+        Needed::Refused(f) => says::refused(f),
+        Needed::Scratch(s) => {
+            says::number(s.first);
+            says::text(b" ");
+            says::number(s.second);
+            says::text(b"\n");
+        }
+    }
+}
+
 fn show_value_at(plan: &[u32], i: usize) {
     if i < plan.len() {
         says::number(lists::wide(lists::word(plan, i)));
@@ -183,6 +199,13 @@ fn lengths(words: &[u32]) {
     show_lengths(b"no such side: ", words, 0, 6);
 }
 
+fn scratch(words: &[u32]) {
+    show_scratch(b"scratch for direct: ", words, 0, 1);
+    show_scratch(b"scratch for literals: ", words, 0, 4);
+    show_scratch(b"scratch for score: ", words, 1, 5);
+    show_scratch(b"scratch for no such side: ", words, 0, 0);
+}
+
 fn lists(words: &[u32]) {
     show_plan(b"list 0 1 1 0 0: ", words, 0, 3, &[0, 1, 1, 0, 0]);
     show_plan(b"list 1 0 0 1 0: ", words, 0, 3, &[1, 0, 0, 1, 0]);
@@ -217,7 +240,7 @@ fn plans(words: &[u32]) {
 fn papers() {
     both_parts(b"X <= Y over three values", &[2, 1, 3, 3, 1, 2, 1, 7, 6, 4]);
     both_parts(b"X = Y over three values", &[2, 1, 3, 3, 1, 2, 1, 1, 2, 4]);
-    both_parts(b"X other than Y, weight 3", &[2, 1, 3, 3, 1, 2, 3, 6, 5, 3]);
+    both_parts(b"X other than Y, weight 2", &[2, 1, 3, 3, 1, 2, 2, 6, 5, 3]);
     both_parts(
         b"4 and 4 values, three allowed",
         &[2, 1, 4, 4, 1, 2, 1, 14, 0, 0, 0],
@@ -231,4 +254,7 @@ fn main() {
     lengths(&[2, 1, 2, 3, 1, 2, 7, 6, 0]);
     lists(&[2, 1, 2, 3, 1, 2, 7, 6, 0]);
     plans(&[2, 1, 2, 3, 1, 2, 7, 6, 0]);
+    scratch(&[2, 1, 4, 4, 1, 2, 1, 14, 0, 0, 0]);
+    room::scratch_short();
+    room::lists_short();
 }
