@@ -1,0 +1,72 @@
+-- How long the texts are, exactly and at most; a turn of the loop over a plan.
+use mathlib.Core.Path.{_≡_}
+use mathlib.Core.List.{List, [], _∷_, _++_, flatMap}
+use Prim.Native.Nat.{ℕ, suc, _+_, _*_, _^_, _≤_, _<_}
+use native.Mathlib.Omega.{arith}
+use native.Mathlib.Numerals.{add-one}
+use lib.ListN.{length, length-append, getD, drop, drop-of-length-le}
+use lib.Seq.{drop-cons}
+use Rattle.lists.specs.Decimal.{digits}
+use Rattle.lists.specs.Lists.{Each}
+use Rattle.lists.proofs.Sums.{sum-most, length-flat}
+use Rattle.lists.proofs.Decimal.{length-digits}
+use Rattle.refusal.specs.declared.Refusal.{Refusal}
+use Rattle.refusal.specs.declared.Refusal.the-variants.{Missing, Extra, Count, Domain, Partner, Weight, Mask, Choice, Room, Length, Entry, Broken, Line}
+use Rattle.refusal.specs.Refusals.{numberOf, placeOf}
+use Rattle.text_out.specs.Texts.{lineOf}
+use Rattle.text_out.proofs.Texts.{length-line}
+use Rattle.answer_out.specs.Answer.{valueKey, costKey, refusedKey, placeKey, valueLine, valueLines, costLine, answerText, refusedLine}
+
+pub length-answer : (plan : List ℕ) (cost : ℕ) → length (answerText plan cost) ≡ length (valueLines plan) + length (costLine cost)
+unfolding answerText
+length-answer plan cost = length-append (valueLines plan) (costLine cost)
+
+pub length-refused : (f : Refusal) → length (refusedLine f) ≡ 8 + (length (digits (numberOf f)) + length (lineOf placeKey (placeOf f)))
+unfolding refusedLine
+length-refused f = simp length-append (omega arith)
+
+-- ---- a turn of the loop, from index i of the plan on
+
+pub values-turn : (l : List ℕ) (i : ℕ) → i < length l → valueLines (drop i l) ≡ valueLine (getD l i 0) ++ valueLines (drop (i + 1) l)
+unfolding valueLines flatMap
+values-turn l i h = rw (drop-cons l i 0 h, add-one)
+
+pub values-end : (l : List ℕ) (i : ℕ) → length l ≤ i → valueLines (drop i l) ≡ []
+unfolding valueLines flatMap
+values-end l i h = rw (drop-of-length-le l {i = i} h)
+
+-- ---- at most: what a program's buffer has to hold
+
+short-line : (key : List ℕ) (k n : ℕ) → n < 10 ^ suc k → length (lineOf key n) ≤ length key + suc k + 1
+short-line key k n h = omega (arith, length-line key n, length-digits k n h)
+
+-- values are 32-bit words and a cost is one of 64 bits
+pub short-answer : (plan : List ℕ) (cost : ℕ) → Each (λ v. v < 2 ^ 32) plan → cost < 2 ^ 64 → length (answerText plan cost) ≤ length plan * 17 + 26
+unfolding valueLines
+short-answer plan cost e h =
+    let lines : length (flatMap valueLine plan) ≤ length plan * 17 =
+    rw length-flat (sum-most (λ v. length (valueLine v)) 17 plan (short-values plan e)) in
+    omega (arith, length-answer plan cost, lines, short-line costKey 19 cost (omega arith))
+  where
+    short-values : (l : List ℕ) → Each (λ v. v < 2 ^ 32) l → Each (λ v. length (valueLine v) ≤ 17) l
+    short-values [] e = tt
+    short-values (v ∷ l) (h, e) = (short-line valueKey 9 v (omega arith), short-values l e)
+
+small-number : (f : Refusal) → numberOf f < 100
+small-number (Missing at) = omega arith
+small-number (Extra at) = omega arith
+small-number (Count at) = omega arith
+small-number (Domain at) = omega arith
+small-number (Partner at) = omega arith
+small-number (Weight at) = omega arith
+small-number (Mask at) = omega arith
+small-number Choice = omega arith
+small-number (Room needed) = omega arith
+small-number (Length wanted) = omega arith
+small-number (Entry at) = omega arith
+small-number (Broken box) = omega arith
+small-number (Line line) = omega arith
+
+pub short-refused : (f : Refusal) → placeOf f < 2 ^ 64 → length (refusedLine f) ≤ 38
+short-refused f h =
+    omega (arith, length-refused f, length-digits 1 (numberOf f) (small-number f), short-line placeKey 19 (placeOf f) (omega arith))

@@ -1,0 +1,74 @@
+-- The refusal's number between the two keys, and its place up to the line feed.
+use Rattle.lists.proofs.Stores.{wrote-append}
+use Rattle.answer_out.proofs.Answer.{length-refused}
+use Rattle.answer_out.specs.Answer.{refusedLine}
+use native.Mathlib.Omega.{arith}
+use borrow.Author.Needs.{needs}
+use Rattle.answer_out.proofs.put_refused.Statement.{statement}
+use Rattle.answer_out.proofs.put_refused.Tie as tie
+
+number-requires : tie.Need-number-requires
+number-requires c κs = search needs
+
+cast-number : tie.Need-cast-number
+cast-number c = search needs
+
+place-requires : tie.Need-place-requires
+place-requires c κs = search needs
+
+slice-aggregate-put-bytes : tie.Need-slice-aggregate-put-bytes
+slice-aggregate-put-bytes c = search needs
+
+put-bytes-requires : tie.Need-put-bytes-requires
+put-bytes-requires c κs = omega (arith, length-refused (c .before .before .before .before .before .args .f))
+
+put-number-requires : tie.Need-put-number-requires
+put-number-requires c κs =
+    let one = c .before .before .before in
+    let n = one .before .before .before .before in
+    rw (n .number .ensures) (omega (arith, length-refused (n .before .before .args .f), one .put-bytes .ensures .next))
+
+slice-aggregate-put-long-line : tie.Need-slice-aggregate-put-long-line
+slice-aggregate-put-long-line c = search needs
+
+put-long-line-requires : tie.Need-put-long-line-requires
+put-long-line-requires c κs =
+    let two = c .before .before .before .before in
+    let one = two .before .before .before .before in
+    let p = one .before .before .before in
+    let n = p .before in
+    rw (p .place .ensures)
+    (omega (
+      arith,
+      length-refused (n .before .before .args .f),
+      one .put-bytes .ensures .next,
+      rw (n .number .ensures) at (two .put-number .ensures .next),
+    ))
+
+same-length : tie.Need-same-length
+same-length c = search needs
+
+returns : tie.Need-returns
+unfolding refusedLine
+returns c =
+    let two = c .before .before .before .before .before .before .before in
+    let one = two .before .before .before .before in
+    let p = one .before .before .before in
+    let n = p .before in
+    wrote-append (one .put-bytes .ensures)
+    (wrote-append (rw (n .number .ensures) at (two .put-number .ensures)) (rw (p .place .ensures) at (c .before .before .put-long-line .ensures)))
+
+pub put-refused-spec : {M : Type 1} → statement M
+put-refused-spec =
+    tie.close
+    (tie.spec
+    number-requires
+    cast-number
+    place-requires
+    slice-aggregate-put-bytes
+    put-bytes-requires
+    put-number-requires
+    slice-aggregate-put-long-line
+    put-long-line-requires
+    same-length
+    returns)
