@@ -55,9 +55,9 @@ pub fn put_answer(out: &mut [u8], at: usize, plan: &[u32], cost: u64) -> usize
     put_cost(out, last, cost)
 }
 
-// What either program prints of a refusal.
+// What either program prints of a refusal: at most 38 bytes.
 pub fn put_refused(out: &mut [u8], at: usize, f: Refusal) -> usize
-    requires { ⌜ at + length (refusedLine f) < 2 ^ 64 ⌝ }
+    requires { ⌜ at + 38 < 2 ^ 64 ⌝ }
     ensures { λ r. ⌜ Wrote (now (out .entry)) at (refusedLine f) r (now (out .exit)) ⌝ }
 {
     let number = refusal::number(f) as u64;

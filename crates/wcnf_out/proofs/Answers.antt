@@ -23,6 +23,7 @@ use Rattle.clause.specs.Soft.{softWith}
 use Rattle.clause.specs.Lengths.{longest, candidateLength, scratchLength}
 use Rattle.clause.proofs.Lengths.{soft-room}
 use Rattle.pairs.proofs.Sight.{pair-small}
+use Rattle.soft.specs.Scratch.{pairScratch}
 use Rattle.parts.specs.Parts.{scratchThrough}
 use Rattle.measure.specs.declared.Scratch.{Scratch}
 use Rattle.measure.specs.Measures.{scratchFor}
@@ -43,6 +44,13 @@ module _ (ws : List ℕ) (A : Accepted ws) (w : Which) where
       let e = end (tableOf ws) (pairAt ws at) w in
       let small = pair-small ws at A S w in
       soft-room e e small small [] [] (omega arith) (omega arith) First .entries
+
+  pub pair-scratch-short : (s : Side) (at : ℕ) → PairStands ws at → pairScratch s w (tableOf ws) (pairAt ws at) ≤ 1024
+  pair-scratch-short Direct at S = omega arith
+  pair-scratch-short Support at S = omega arith
+  pair-scratch-short First at S = omega arith
+  pair-scratch-short Literals at S = list-short at S
+  pair-scratch-short Score at S = list-short at S
 
   lists-short : (k at : ℕ) → Ahead ws k at → longest (candidateLength (tableOf ws) w) (pairsAt ws k at) ≤ 1024
   unfolding pairsAt

@@ -1,6 +1,6 @@
 -- The refusal's number between the two keys, and its place up to the line feed.
 use Rattle.lists.proofs.Stores.{wrote-append}
-use Rattle.answer_out.proofs.Answer.{length-refused}
+use Rattle.answer_out.proofs.Answer.{length-refused, short-refused}
 use Rattle.answer_out.specs.Answer.{refusedLine}
 use native.Mathlib.Omega.{arith}
 use borrow.Author.Needs.{needs}
@@ -20,13 +20,19 @@ slice-aggregate-put-bytes : tie.Need-slice-aggregate-put-bytes
 slice-aggregate-put-bytes c = search needs
 
 put-bytes-requires : tie.Need-put-bytes-requires
-put-bytes-requires c κs = omega (arith, length-refused (c .before .before .before .before .before .args .f))
+put-bytes-requires c κs =
+    let p = c .before .before in
+    let f = p .before .before .before .args .f in
+    omega (arith, length-refused f, short-refused f (omega (arith, p .place .ok, p .place .ensures)))
 
 put-number-requires : tie.Need-put-number-requires
 put-number-requires c κs =
     let one = c .before .before .before in
-    let n = one .before .before .before .before in
-    rw (n .number .ensures) (omega (arith, length-refused (n .before .before .args .f), one .put-bytes .ensures .next))
+    let p = one .before .before .before in
+    let n = p .before in
+    let f = n .before .before .args .f in
+    let short = short-refused f (omega (arith, p .place .ok, p .place .ensures)) in
+    rw (n .number .ensures) (omega (arith, length-refused f, short, one .put-bytes .ensures .next))
 
 slice-aggregate-put-long-line : tie.Need-slice-aggregate-put-long-line
 slice-aggregate-put-long-line c = search needs
@@ -37,10 +43,13 @@ put-long-line-requires c κs =
     let one = two .before .before .before .before in
     let p = one .before .before .before in
     let n = p .before in
+    let f = n .before .before .args .f in
+    let short = short-refused f (omega (arith, p .place .ok, p .place .ensures)) in
     rw (p .place .ensures)
     (omega (
       arith,
-      length-refused (n .before .before .args .f),
+      length-refused f,
+      short,
       one .put-bytes .ensures .next,
       rw (n .number .ensures) at (two .put-number .ensures .next),
     ))
