@@ -9,17 +9,17 @@ use lib.Seq.{sets}
 use lib.Dec.{leb, eqb}
 use Rattle.lists.specs.Firsts.{_then_, unless, firstOf, Lowest}
 use Rattle.refusal.specs.declared.Refusal.{Refusal}
-use Rattle.refusal.specs.declared.Refusal.the-variants.{Choice, Room, Length, Entry, Broken}
+use Rattle.refusal.specs.declared.Refusal.the-variants.{Room, Length, Entry, Broken}
 use Rattle.refusal.specs.Refusals.{Says, gives, refusalSays}
 use Rattle.table.specs.Table.{Table, boxes}
-use Rattle.table.specs.Words.{Outcome, refused, accepted}
+use Rattle.table.specs.Words.{Outcome}
 use Rattle.plan.specs.Plan.{cost, planFault}
 use Rattle.clause.specs.declared.Hard.{Hard}
 use Rattle.clause.specs.declared.Side.{Side}
 use Rattle.clause.specs.declared.Encoding.{Encoding}
 use Rattle.clause.specs.declared.Picked.{Picked}
-use Rattle.clause.specs.declared.Picked.the-variants.{Known, Unknown}
 use Rattle.clause.specs.Numbers.{variables}
+use Rattle.asked.specs.Asked.{over}
 use Rattle.decoder.specs.declared.Decoded.{Decoded}
 use Rattle.decoder.specs.declared.Made.{Made}
 use Rattle.decoder.specs.Lists.{Bit, boxOk, planOf, made}
@@ -76,15 +76,11 @@ decodedWith (some f) c = Decoded.Refused f
 
 -- 8, then the table's refusals, then those over an accepted table; else the cost
 abbrev pub decodedOf : Picked → Outcome → List ℕ → (room : ℕ) → Decoded
-decodedOf Unknown o l room = Decoded.Refused Choice
-decodedOf (Known e) (refused f) l room = Decoded.Refused f
-decodedOf (Known e) (accepted t) l room = decodedWith (decodeFault e t l room) (cost t (planOf t l))
+decodedOf p o l room = over p o Decoded.Refused (λ e t. decodedWith (decodeFault e t l room) (cost t (planOf t l)))
 
 -- what the lent plan holds after, if it held `old`
 abbrev pub planAfter : Picked → Outcome → List ℕ → (old : List ℕ) → List ℕ
-planAfter Unknown o l old = old
-planAfter (Known e) (refused f) l old = old
-planAfter (Known e) (accepted t) l old = bufferWith (decodeFault e t l (length old)) old (planOf t l)
+planAfter p o l old = over p o (λ f. old) (λ e t. bufferWith (decodeFault e t l (length old)) old (planOf t l))
 
 -- success gives the cost
 abbrev pub decodedSays : Decoded → Says
@@ -102,15 +98,11 @@ madeWith none n = Made.Written n
 madeWith (some f) n = Made.Refused f
 
 abbrev pub madeOf : Picked → Outcome → List ℕ → (room : ℕ) → Made
-madeOf Unknown o plan room = Made.Refused Choice
-madeOf (Known e) (refused f) plan room = Made.Refused f
-madeOf (Known e) (accepted t) plan room = madeWith (makeFault e t plan room) (variables t (e .hard) (e .side))
+madeOf p o plan room = over p o Made.Refused (λ e t. madeWith (makeFault e t plan room) (variables t (e .hard) (e .side)))
 
 -- what the lent list holds after, if it held `old`
 abbrev pub listAfter : Picked → Outcome → List ℕ → (old : List ℕ) → List ℕ
-listAfter Unknown o plan old = old
-listAfter (Known e) (refused f) plan old = old
-listAfter (Known e) (accepted t) plan old = bufferWith (makeFault e t plan (length old)) old (made (e .hard) (e .side) t plan)
+listAfter p o plan old = over p o (λ f. old) (λ e t. bufferWith (makeFault e t plan (length old)) old (made (e .hard) (e .side) t plan))
 
 -- success gives the length of the list
 abbrev pub madeSays : Made → Says

@@ -1,11 +1,10 @@
 // The decoder of solver lists. The answers of the list maker, and what both promise, stand here too.
+use asked::Asked;
 use clause::Encoding;
 use clause::Hard;
-use clause::Picked;
 use clause::Side;
 use plan::Judged;
 use refusal::Refusal;
-use table::Checked;
 use table::Counts;
 ghost use mathlib.Core.Path.{_≡_};
 ghost use mathlib.Core.Bool.{cond};
@@ -275,11 +274,8 @@ pub fn decode(words: &[u32], hard: u32, side: u32, list: &[u8], plan: &mut [u32]
     ensures { λ r. ⌜ (r ≡ decodedOf (pickedOf hard side) (judged (now (words .entry))) (now (list .entry)) (length (now (plan .entry))))
         × (now (plan .exit) ≡ planAfter (pickedOf hard side) (judged (now (words .entry))) (now (list .entry)) (now (plan .entry))) ⌝ }
 {
-    match clause::pick(hard, side) {
-        Picked::Unknown => Decoded::Refused(Refusal::Choice),
-        Picked::Known(e) => match table::check(words) {
-            Checked::Refused(f) => Decoded::Refused(f),
-            Checked::Accepted(counts) => answer(words, counts, e, list, plan),
-        },
+    match asked::ask(words, hard, side) {
+        Asked::Refused(f) => Decoded::Refused(f),
+        Asked::Ready(e, counts) => answer(words, counts, e, list, plan),
     }
 }

@@ -9,16 +9,16 @@ use lib.IntN.{ℤ}
 use lib.Dec.{leb}
 use Rattle.lists.specs.Firsts.{_then_, unless}
 use Rattle.refusal.specs.declared.Refusal.{Refusal}
-use Rattle.refusal.specs.declared.Refusal.the-variants.{Choice, Room}
+use Rattle.refusal.specs.declared.Refusal.the-variants.{Room}
 use Rattle.refusal.specs.Refusals.{Says, gives, refusalSays}
 use Rattle.table.specs.Table.{Table}
-use Rattle.table.specs.Words.{Outcome, refused, accepted}
+use Rattle.table.specs.Words.{Outcome}
 use Rattle.clause.specs.declared.Encoding.{Encoding}
 use Rattle.clause.specs.declared.Side.{Side}
 use Rattle.clause.specs.declared.Side.the-variants.{Direct, Support, First, Literals, Score}
 use Rattle.clause.specs.declared.Picked.{Picked}
-use Rattle.clause.specs.declared.Picked.the-variants.{Known, Unknown}
 use Rattle.clause.specs.Clause.{entries, weights}
+use Rattle.asked.specs.Asked.{over}
 use Rattle.clause.specs.List.{clauses}
 use Rattle.clause.specs.Lengths.{clauseCount, entryCount}
 use Rattle.puts.specs.Signed.{zeros}
@@ -53,9 +53,7 @@ judgedRoom e t first second literals weights =
     roomed (roomFault (lengthsFor e t) (scratchFor (e .side) t) (length first) (length second) (length literals) (length weights)) e t
 
 abbrev pub verdict : Picked → Outcome → (first second literals : List ℤ) → (weights : List ℕ) → Verdict
-verdict Unknown o first second literals weights = no Choice
-verdict (Known e) (refused f) first second literals weights = no f
-verdict (Known e) (accepted t) first second literals weights = judgedRoom e t first second literals weights
+verdict p o first second literals weights = over p o no (λ e t. judgedRoom e t first second literals weights)
 
 -- the judgement of the room, as the code has it
 abbrev pub fitOf : Option Refusal → Fit

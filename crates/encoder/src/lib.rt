@@ -1,12 +1,11 @@
 // The clause list of a table, into lent buffers. Everything is judged, by counts, before the first store.
+use asked::Asked;
 use clause::Encoding;
 use clause::Hard;
-use clause::Picked;
 use clause::Side;
 use measure::Lengths;
 use measure::Scratch;
 use refusal::Refusal;
-use table::Checked;
 use table::Counts;
 ghost use mathlib.Core.Path.{_≡_};
 ghost use Prim.Native.Nat.{_^_, _≤_, _<_};
@@ -200,19 +199,10 @@ pub fn encode(
         (now (first .entry)) (now (second .entry)) (now (literals .entry)) (now (weights .entry))
         r (now (first .exit)) (now (second .exit)) (now (literals .exit)) (now (weights .exit)) ⌝ }
 {
-    match clause::pick(hard, side) {
-        Picked::Unknown => Encoded::Refused(Refusal::Choice),
-        Picked::Known(e) => match table::check(words) {
-            Checked::Refused(f) => Encoded::Refused(f),
-            Checked::Accepted(counts) => encode_checked(
-                words,
-                counts,
-                e,
-                first,
-                second,
-                literals,
-                weights,
-            ),
-        },
+    match asked::ask(words, hard, side) {
+        Asked::Refused(f) => Encoded::Refused(f),
+        Asked::Ready(e, counts) => {
+            encode_checked(words, counts, e, first, second, literals, weights)
+        }
     }
 }

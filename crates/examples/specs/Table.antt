@@ -12,7 +12,7 @@ use Rattle.clause.specs.Clause.{entriesOf, entries, weights}
 use Rattle.clause.specs.List.{hardPart, softPart, clauses}
 use Rattle.clause.specs.Lengths.{top}
 use Rattle.puts.specs.Signed.{neg}
-use Rattle.measure.specs.Measures.{over}
+use Rattle.asked.specs.Asked.{over}
 use Rattle.decoder.specs.Answers.{decodedOf, decodedSays, planAfter}
 
 -- the numbers of the hard part and of the side, the words, and what is to be found

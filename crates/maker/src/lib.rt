@@ -1,12 +1,11 @@
 // The list maker: the list of 0 and 1 that a plan is, in any of the ten encodings.
+use asked::Asked;
 use clause::Encoding;
 use clause::Hard;
-use clause::Picked;
 use clause::Side;
 use decoder::Made;
 use plan::Judged;
 use refusal::Refusal;
-use table::Checked;
 use table::Counts;
 ghost use mathlib.Core.Path.{_≡_};
 ghost use mathlib.Core.List.{[], _∷_};
@@ -163,11 +162,8 @@ pub fn make_list(words: &[u32], hard: u32, side: u32, plan: &[u32], list: &mut [
     ensures { λ r. ⌜ (r ≡ madeOf (pickedOf hard side) (judged (now (words .entry))) (now (plan .entry)) (length (now (list .entry))))
         × (now (list .exit) ≡ listAfter (pickedOf hard side) (judged (now (words .entry))) (now (plan .entry)) (now (list .entry))) ⌝ }
 {
-    match clause::pick(hard, side) {
-        Picked::Unknown => Made::Refused(Refusal::Choice),
-        Picked::Known(e) => match table::check(words) {
-            Checked::Refused(f) => Made::Refused(f),
-            Checked::Accepted(counts) => answer(words, counts, e, plan, list),
-        },
+    match asked::ask(words, hard, side) {
+        Asked::Refused(f) => Made::Refused(f),
+        Asked::Ready(e, counts) => answer(words, counts, e, plan, list),
     }
 }

@@ -2,28 +2,20 @@
 use Prim.Native.Nat.{ℕ}
 use mathlib.Core.Bool.{Bool, true, false}
 use mathlib.Core.List.{List, [], _∷_}
-use Rattle.refusal.specs.declared.Refusal.{Refusal}
-use Rattle.refusal.specs.declared.Refusal.the-variants.{Choice}
 use Rattle.refusal.specs.Refusals.{Says, gives, refusalSays}
 use Rattle.table.specs.Table.{Table}
-use Rattle.table.specs.Words.{Outcome, refused, accepted}
+use Rattle.table.specs.Words.{Outcome}
 use Rattle.clause.specs.declared.Side.{Side}
 use Rattle.clause.specs.declared.Encoding.{Encoding}
 use Rattle.clause.specs.declared.Picked.{Picked}
-use Rattle.clause.specs.declared.Picked.the-variants.{Known, Unknown}
 use Rattle.clause.specs.Ends.{Which, one, two}
+use Rattle.asked.specs.Asked.{over}
 use Rattle.clause.specs.Numbers.{variables}
 use Rattle.clause.specs.Lengths.{clauseCount, literalCount, entryCount, longest, candidateLength, scratchLength, top}
 use Rattle.measure.specs.declared.Lengths.{Lengths}
 use Rattle.measure.specs.declared.Scratch.{Scratch}
 use Rattle.measure.specs.declared.Measured.{Measured}
 use Rattle.measure.specs.declared.Needed.{Needed}
-
--- an answer over an encoding and a judged table: `good` where both are
-abbrev pub over : {A : Type 0} → Picked → Outcome → (Refusal → A) → (Encoding → Table → A) → A
-over Unknown o bad good = bad Choice
-over (Known e) (refused f) bad good = bad f
-over (Known e) (accepted t) bad good = good e t
 
 abbrev pub lengthsFor : Encoding → Table → Lengths
 lengthsFor e t =

@@ -1,12 +1,11 @@
 // The exact lengths of a table's clause list, counted without writing anything, and the top of its text.
+use asked::Asked;
 use clause::Encoding;
 use clause::Hard;
-use clause::Picked;
 use clause::Side;
 use ends::Seen;
 use hard::Tally;
 use refusal::Refusal;
-use table::Checked;
 use table::Counts;
 ghost use mathlib.Core.Path.{_≡_};
 ghost use Rattle.table.specs.Words.{tableOf, judged};
@@ -148,12 +147,9 @@ pub fn measure(words: &[u32], counts: Counts, e: Encoding) -> Lengths
 pub fn exact_lengths(words: &[u32], hard: u32, side: u32) -> Measured
     ensures { λ r. ⌜ r ≡ measuredOf (pickedOf hard side) (judged (now (words .entry))) ⌝ }
 {
-    match clause::pick(hard, side) {
-        Picked::Unknown => Measured::Refused(Refusal::Choice),
-        Picked::Known(e) => match table::check(words) {
-            Checked::Refused(f) => Measured::Refused(f),
-            Checked::Accepted(counts) => Measured::Lengths(measure(words, counts, e)),
-        },
+    match asked::ask(words, hard, side) {
+        Asked::Refused(f) => Measured::Refused(f),
+        Asked::Ready(e, counts) => Measured::Lengths(measure(words, counts, e)),
     }
 }
 
@@ -232,14 +228,11 @@ pub fn scratch_over(words: &[u32], counts: Counts, side: Side) -> Scratch
 pub fn scratch_lengths(words: &[u32], hard: u32, side: u32) -> Needed
     ensures { λ r. ⌜ r ≡ neededOf (pickedOf hard side) (judged (now (words .entry))) ⌝ }
 {
-    match clause::pick(hard, side) {
-        Picked::Unknown => Needed::Refused(Refusal::Choice),
-        Picked::Known(e) => match table::check(words) {
-            Checked::Refused(f) => Needed::Refused(f),
-            Checked::Accepted(counts) => {
-                let chosen = e.side;
-                Needed::Scratch(scratch_over(words, counts, chosen))
-            }
-        },
+    match asked::ask(words, hard, side) {
+        Asked::Refused(f) => Needed::Refused(f),
+        Asked::Ready(e, counts) => {
+            let chosen = e.side;
+            Needed::Scratch(scratch_over(words, counts, chosen))
+        }
     }
 }

@@ -7,13 +7,16 @@ use lib.ListN.{length}
 use lib.Seq.{sets}
 use borrow.Author.Tests.{le-leb, lt-leb}
 use Rattle.refusal.specs.declared.Refusal.{Refusal}
-use Rattle.refusal.specs.declared.Refusal.the-variants.{Choice, Room}
-use Rattle.table.specs.Words.{refused, accepted, judged, tableOf, Accepted}
-use Rattle.clause.specs.declared.Picked.the-variants.{Known, Unknown}
+use Rattle.refusal.specs.declared.Refusal.the-variants.{Room}
+use Rattle.table.specs.Words.{judged, tableOf, Accepted}
+use Rattle.clause.specs.declared.Picked.the-variants.{Known}
 use Rattle.clause.specs.declared.Encoding.{Encoding}
 use Rattle.clause.specs.Encodings.{pickedOf}
+use Rattle.asked.specs.declared.Asked.{Asked}
+use Rattle.asked.specs.Asked.{askedOf}
+use Rattle.asked.proofs.Answers.{asked-refused}
 use Rattle.sheet_out.specs.declared.Written.{Written}
-use Rattle.sheet_out.specs.Written.{Sheet, text, ofTable, sheetOf, writtenOf, textLeft}
+use Rattle.sheet_out.specs.Written.{Sheet, text, none, ofTable, sheetOf, writtenOf, textLeft}
 
 -- what the entry point ensures of its answer and of the lent text
 abbrev pub Answered : Sheet → List ℕ → Written → List ℕ → Type 0
@@ -31,16 +34,11 @@ module _ (s old : List ℕ) (n : ℕ) (e : n ≡ 0 + length s) where
       rw (q, le-leb n (length old) h) (refl, p)
 
 module _ (ws : List ℕ) (hard side : ℕ) (old : List ℕ) where
-  pub no-choice : pickedOf hard side ≡ Unknown → Answered (sheetOf ws hard side) old (Written.Refused Choice) old
+  pub not-asked : {f : Refusal} → askedOf (pickedOf hard side) (judged ws) ≡ Asked.Refused f → Answered (sheetOf ws hard side) old (Written.Refused f) old
   unfolding sheetOf
-  no-choice p = rw p (refl, refl)
-
-  pub no-table : {e : Encoding} {f : Refusal} → pickedOf hard side ≡ Known e → judged ws ≡ refused f
-      → Answered (sheetOf ws hard side) old (Written.Refused f) old
-  unfolding sheetOf
-  no-table p q = rw (p, q) (refl, refl)
+  not-asked q = rw (asked-refused (pickedOf hard side) (judged ws) q none ofTable) (refl, refl)
 
   pub of-table : {e : Encoding} {r : Written} {new : List ℕ} → pickedOf hard side ≡ Known e → Accepted ws
-      → Answered (ofTable e (accepted (tableOf ws))) old r new → Answered (sheetOf ws hard side) old r new
+      → Answered (ofTable e (tableOf ws)) old r new → Answered (sheetOf ws hard side) old r new
   unfolding sheetOf
   of-table p q a = rw (p, q) a

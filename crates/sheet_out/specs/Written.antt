@@ -5,12 +5,13 @@ use mathlib.Core.List.{List}
 use lib.ListN.{length}
 use lib.Dec.{leb}
 use Rattle.refusal.specs.declared.Refusal.{Refusal}
-use Rattle.refusal.specs.declared.Refusal.the-variants.{Choice, Room}
-use Rattle.table.specs.Words.{Outcome, refused, accepted, judged}
+use Rattle.refusal.specs.declared.Refusal.the-variants.{Room}
+use Rattle.table.specs.Table.{Table}
+use Rattle.table.specs.Words.{Outcome, judged}
 use Rattle.clause.specs.declared.Picked.{Picked}
-use Rattle.clause.specs.declared.Picked.the-variants.{Known, Unknown}
 use Rattle.clause.specs.declared.Encoding.{Encoding}
 use Rattle.clause.specs.Encodings.{pickedOf}
+use Rattle.asked.specs.Asked.{over}
 use Rattle.sheet.specs.Sheet.{sheetText}
 use Rattle.sheet.specs.Room.{filled}
 use Rattle.sheet_out.specs.declared.Written.{Written}
@@ -20,13 +21,11 @@ pub data Sheet : Type 0 where
   text : List ℕ → Sheet
   none : Refusal → Sheet
 
-abbrev pub ofTable : Encoding → Outcome → Sheet
-ofTable e (refused f) = none f
-ofTable e (accepted t) = text (sheetText (e .hard) (e .side) t)
+abbrev pub ofTable : Encoding → Table → Sheet
+ofTable e t = text (sheetText (e .hard) (e .side) t)
 
 abbrev pub ofChoices : Picked → Outcome → Sheet
-ofChoices (Known e) o = ofTable e o
-ofChoices Unknown o = none Choice
+ofChoices p o = over p o none ofTable
 
 -- the sheet of words with a hard part's and a side's number
 unfoldable pub sheetOf : List ℕ → ℕ → ℕ → Sheet

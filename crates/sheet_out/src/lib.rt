@@ -1,15 +1,14 @@
 // Writes the house sheet of a table. The sheet is measured first, by the same function lent one byte, so that a refusal writes nothing.
+use asked::Asked;
 use clause::Encoding;
-use clause::Picked;
 use reader::PairHead;
 use refusal::Refusal;
-use table::Checked;
 use table::Counts;
 ghost use mathlib.Core.Path.{_≡_};
 ghost use Prim.Native.Nat.{_+_, _^_, _<_};
 ghost use lib.ListN.{length};
 ghost use Rattle.lists.specs.Stores.{Wrote};
-ghost use Rattle.table.specs.Words.{pairAt, pairsAt, tableOf, accepted, PairStands, Ahead};
+ghost use Rattle.table.specs.Words.{pairAt, pairsAt, tableOf, PairStands, Ahead};
 ghost use Rattle.table.specs.Answers.{Counted};
 ghost use Rattle.reader.specs.Reader.{headAt};
 ghost use Rattle.sheet.specs.Sheet.{valuesText, rowsText, pairText, pairsText, bodyText, sheetText};
@@ -108,8 +107,8 @@ fn put_sheet(text: &mut [u8], words: &[u32], counts: Counts, encoding: Encoding)
 // The answer over an accepted table.
 fn write_table(words: &[u32], counts: Counts, encoding: Encoding, text: &mut [u8]) -> Written
     requires { ⌜ Counted (now words) counts ⌝ }
-    ensures { λ r. ⌜ (r ≡ writtenOf (ofTable encoding (accepted (tableOf (now (words .entry))))) (length (now (text .entry))))
-        × (now (text .exit) ≡ textLeft (ofTable encoding (accepted (tableOf (now (words .entry))))) (now (text .entry))) ⌝ }
+    ensures { λ r. ⌜ (r ≡ writtenOf (ofTable encoding (tableOf (now (words .entry)))) (length (now (text .entry))))
+        × (now (text .exit) ≡ textLeft (ofTable encoding (tableOf (now (words .entry)))) (now (text .entry))) ⌝ }
 {
     let mut none = [0u8; 1];
     let needed = put_sheet(&mut none, words, counts, encoding);
@@ -125,11 +124,8 @@ pub fn write_sheet(words: &[u32], hard: u32, side: u32, text: &mut [u8]) -> Writ
     ensures { λ r. ⌜ (r ≡ writtenOf (sheetOf (now (words .entry)) hard side) (length (now (text .entry))))
         × (now (text .exit) ≡ textLeft (sheetOf (now (words .entry)) hard side) (now (text .entry))) ⌝ }
 {
-    let Picked::Known(encoding) = clause::pick(hard, side) else {
-        return Written::Refused(Refusal::Choice);
-    };
-    match table::check(words) {
-        Checked::Refused(f) => Written::Refused(f),
-        Checked::Accepted(counts) => write_table(words, counts, encoding, text),
+    match asked::ask(words, hard, side) {
+        Asked::Refused(f) => Written::Refused(f),
+        Asked::Ready(e, counts) => write_table(words, counts, e, text),
     }
 }
