@@ -1,0 +1,2 @@
+pub mod Tops
+pub mod Answers

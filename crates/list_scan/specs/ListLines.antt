@@ -1,0 +1,38 @@
+-- The list line of document 01, and where a line of a text begins.
+use Prim.Native.Nat.{ℕ, suc, _+_, _-_}
+use mathlib.Core.Bool.{Bool, cond, _&&_}
+use mathlib.Core.List.{List, [], _∷_, map}
+use lib.ListN.{length, drop}
+use lib.Dec.{eqb, leb}
+use Rattle.scan.specs.Stands.{begins}
+use Rattle.list_scan.specs.declared.ListLine.{ListLine}
+use Rattle.list_scan.specs.declared.ListLine.the-variants.{Entries, Bad, More}
+
+-- list=
+abbrev pub listKey : List ℕ
+listKey = 108 ∷ 105 ∷ 115 ∷ 116 ∷ 61 ∷ []
+
+-- how many characters 0 or 1 stand at the start
+unfoldable pub bitCount : List ℕ → ℕ
+bitCount [] = 0
+bitCount (c ∷ r) = let m = suc (bitCount r) in cond (leb 48 c && leb c 49) m 0
+
+-- the entry that a character stands for
+abbrev pub entryOf : ℕ → ℕ
+entryOf c = cond (eqb c 49) 1 0
+
+unfoldable pub entriesOf : List ℕ → List ℕ
+entriesOf characters = map entryOf characters
+
+-- characters and a line feed, to the end of the text
+unfoldable pub entriesFound : List ℕ → ListLine
+entriesFound r = let m = bitCount r in cond (begins (10 ∷ []) (drop m r)) (cond (leb (length r) (m + 1)) (Entries m) More) Bad
+
+-- the key before them
+unfoldable pub lineFound : List ℕ → ListLine
+lineFound r = cond (begins listKey r) (entriesFound (drop 5 r)) Bad
+
+-- the index at which line l begins
+unfoldable pub lineStart : ℕ → List ℕ → ℕ
+lineStart l [] = 0
+lineStart l (c ∷ s) = let next = suc (lineStart (cond (eqb c 10) (l - 1) l) s) in cond (leb l 1) 0 next
