@@ -1,2 +1,4 @@
 pub mod Tops
 pub mod Answers
+pub mod LineCount
+pub mod Round

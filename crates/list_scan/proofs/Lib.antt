@@ -1,1 +1,2 @@
 pub mod ListLines
+pub mod Written

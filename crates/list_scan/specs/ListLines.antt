@@ -1,7 +1,7 @@
 -- The list line of document 01, and where a line of a text begins.
 use Prim.Native.Nat.{ℕ, suc, _+_, _-_}
 use mathlib.Core.Bool.{Bool, cond, _&&_}
-use mathlib.Core.List.{List, [], _∷_, map}
+use mathlib.Core.List.{List, [], _∷_, _++_, map}
 use lib.ListN.{length, drop}
 use lib.Dec.{eqb, leb}
 use Rattle.scan.specs.Stands.{begins}
@@ -11,6 +11,16 @@ use Rattle.list_scan.specs.declared.ListLine.the-variants.{Entries, Bad,
 -- list=
 abbrev pub listKey : List ℕ
 listKey = 108 ∷ 105 ∷ 115 ∷ 116 ∷ 61 ∷ []
+
+-- ---- what is written: the characters of a list's entries, and its line
+
+unfoldable pub charactersOf : List ℕ → List ℕ
+charactersOf l = map (λ b. 48 + b) l
+
+unfoldable pub listText : List ℕ → List ℕ
+listText l = listKey ++ (charactersOf l ++ (10 ∷ []))
+
+-- ---- what is found
 
 -- how many characters 0 or 1 stand at the start
 unfoldable pub bitCount : List ℕ → ℕ

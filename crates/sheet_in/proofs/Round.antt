@@ -2,13 +2,13 @@
 use mathlib.Core.Path.{_≡_, refl, sym, ap, ap₂, _∙_, subst}
 use mathlib.Core.Bool.{Bool, true, false, cond}
 use mathlib.Core.List.{List, _∷_, _++_, flatMap, append-nil}
-use Prim.Native.Nat.{ℕ, _+_, _≤_}
+use Prim.Native.Nat.{ℕ, _+_, _≤_, _<_}
 use native.Mathlib.Nat.{zero-add}
 use native.Mathlib.Omega.{arith}
-use lib.ListN.{length, drop-of-length-le}
-use lib.Seq.{drop-length}
+use lib.ListN.{length, length-append, drop-of-length-le}
+use lib.Seq.{drop-length, drop-append-seam}
 use lib.Dec.{leb}
-use borrow.Author.Tests.{le-leb, leb-true}
+use borrow.Author.Tests.{le-leb, lt-leb, leb-true}
 use Rattle.lists.specs.Lists.{Each}
 use Rattle.clause.specs.declared.Hard.{Hard}
 use Rattle.clause.specs.declared.Side.{Side}
@@ -40,26 +40,23 @@ back : (t : Table) (p : Pair) → SoundPair (Of (t .sizes)) p → SoundPair t p
 back t p S =
     record { first = S .first; second = S .second; differ = S .differ; weight = S .weight; rows = S .rows; masks = S .masks }
 
-rest-found : (s : List ℕ) (h d : ℕ) (sizes : List ℕ) (ps : List Pair) (i j : ℕ) → length ps ≤ 256 → Each (SoundPair (Of sizes)) ps
-    → Stands s i (lineOf pairsKey (length ps)) j → Stands s j (pairsText sizes ps) (length s)
-    → restAt s h d sizes i ≡ sheet h d (length sizes ∷ length ps ∷ (sizes ++ flatMap pairWords ps))
-unfolding restAt onWord closed pairsText
-rest-found s h d sizes ps i j few S a b =
-    rw (
-      exact-line s pairsKey 0 256 .found (length ps) i j (omega arith, few) a,
-      many-found (pairs s sizes) ps j (length s) S b,
-      le-leb (length s) (length s) (omega arith),
-    )
+rest-found : (s : List ℕ) (h d : ℕ) (sizes : List ℕ) (ps : List Pair) (i j k : ℕ) → length ps ≤ 256 → Each (SoundPair (Of sizes)) ps
+    → Stands s i (lineOf pairsKey (length ps)) j → Stands s j (pairsText sizes ps) k
+    → restAt s h d sizes i ≡ closed (length s) h d (length ps) sizes (read (flatMap pairWords ps) k)
+unfolding restAt onWord pairsText
+rest-found s h d sizes ps i j k few S a b =
+    rw (exact-line s pairsKey 0 256 .found (length ps) i j (omega arith, few) a, many-found (pairs s sizes) ps j k S b)
 
 sizes-found : (s : List ℕ) (h d : ℕ) (sizes : List ℕ) (i j : ℕ) → Each (In 1 16) sizes → Stands s i (valuesText sizes) j
     → onSizes s h d (valuesAt s (length sizes) i) ≡ restAt s h d sizes j
 unfolding onSizes
 sizes-found s h d sizes i j S a = rw (values-found s sizes i j S a)
 
-stands-read : (s : List ℕ) (h : Hard) (d : Side) (t : Table) → Sound t → Stands s 0 (sheetText h d t) (length s)
-    → parsed s ≡ sheet (hardNumber h) (sideNumber d) (wordsOf t)
-unfolding sheetText bodyText wordsOf
-stands-read s h d t S r =
+-- a sheet that stands at the start of s: what follows it decides
+stands-read : (s : List ℕ) (h : Hard) (d : Side) (t : Table) (k : ℕ) → Sound t → Stands s 0 (sheetText h d t) k
+    → parsed s ≡ closed (length s) (hardNumber h) (sideNumber d) (length (t .pairs)) (t .sizes) (read (flatMap pairWords (t .pairs)) k)
+unfolding sheetText bodyText
+stands-read s h d t k S r =
     let values = valuesText (t .sizes) in
     let count = lineOf pairsKey (length (t .pairs)) in
     let last = pairsText (t .sizes) (t .pairs) in
@@ -71,13 +68,27 @@ stands-read s h d t S r =
     let e = stands-split count last (v .1) in
     sizes-next s (hard-found s h 0 _ (a .0)) (side-found s d _ _ (b .0)) (exact-line s boxesKey 1 64 .found (boxes t) _ _ (S .boxes) (c .0))
     ∙ sizes-found s (hardNumber h) (sideNumber d) (t .sizes) _ _ (S .sizes) (v .0)
-    ∙ rest-found s (hardNumber h) (sideNumber d) (t .sizes) (t .pairs) _ _ (S .count)
+    ∙ rest-found s (hardNumber h) (sideNumber d) (t .sizes) (t .pairs) _ _ k (S .count)
     (each-as (SoundPair t) (SoundPair (Of (t .sizes))) (among t) (t .pairs) (S .pairs)) (e .0) (e .1)
 
 pub written-read : (h : Hard) (d : Side) (t : Table) → Sound t → parsed (sheetText h d t) ≡ sheet (hardNumber h) (sideNumber d) (wordsOf t)
+unfolding closed wordsOf
 written-read h d t S =
     let s = sheetText h d t in
-    stands-read s h d t S (record { next = sym (zero-add (length s)); there = sym (append-nil s) ∙ ap (λ (l : List ℕ). s ++ l) (sym (drop-length s)) })
+    stands-read s h d t (length s) S
+    (record { next = sym (zero-add (length s)); there = sym (append-nil s) ∙ ap (λ (l : List ℕ). s ++ l) (sym (drop-length s)) })
+    ∙ rw (le-leb (length s) (length s) (omega arith))
+
+-- a sheet with more after it is faulty at the line past its last: a line for each word and two more
+pub more-read : (h : Hard) (d : Side) (t : Table) (more : List ℕ) → Sound t → 0 < length more
+    → parsed (sheetText h d t ++ more) ≡ faulty (length (wordsOf t) + 3)
+unfolding closed wordsOf
+more-read h d t more S some =
+    let s = sheetText h d t in
+    let all = length-append s more in
+    stands-read (s ++ more) h d t (length s) S
+    (record { next = sym (zero-add (length s)); there = ap (λ (l : List ℕ). s ++ l) (sym (drop-append-seam s more)) })
+    ∙ rw (lt-leb (length (s ++ more)) (length s) (omega arith)) (ap faulty (simp length-append (omega arith)))
 
 -- ---- what is read was written
 
