@@ -1,11 +1,10 @@
 // encode: one sheet on standard input, its WCNF text on standard output, part by part. A refusal prints one line and nothing else.
+use asked::Asked;
 use clause::Encoding;
 use clause::Hard;
-use clause::Picked;
 use clause::Side;
 use refusal::Refusal;
 use sheet_in::ReadSheet;
-use table::Checked;
 use table::Counts;
 ghost use mathlib.Core.Path.{_≡_};
 ghost use Prim.Native.Nat.{_^_, _≤_, _<_};
@@ -193,13 +192,9 @@ fn refuse(f: Refusal) {
 }
 
 fn print_words(words: &[u32], hard: u32, side: u32) {
-    let Picked::Known(e) = clause::pick(hard, side) else {
-        refuse(Refusal::Choice);
-        return;
-    };
-    match table::check(words) {
-        Checked::Refused(f) => refuse(f),
-        Checked::Accepted(counts) => print_all(words, counts, e),
+    match asked::ask(words, hard, side) {
+        Asked::Refused(f) => refuse(f),
+        Asked::Ready(e, counts) => print_all(words, counts, e),
     }
 }
 

@@ -17,7 +17,7 @@ use Rattle.clause.specs.declared.Encoding.{Encoding}
 use Rattle.clause.specs.declared.Picked.{Picked}
 use Rattle.clause.specs.Ends.{one, two}
 use Rattle.clause.specs.Lengths.{scratchLength}
-use Rattle.measure.specs.Measures.{over}
+use Rattle.asked.specs.Asked.{over}
 use Rattle.encoder.specs.Encoded.{Verdict, no, yes, roomed, scratchAfter}
 use Rattle.wcnf.specs.Wcnf.{wcnfText}
 use Rattle.wcnf_out.specs.declared.Written.{Written}

@@ -1,12 +1,11 @@
 // WCNF text of a table, into a lent slice of bytes. It is measured first, by the same function lent one byte and scratch of its own, so
 // that a refusal writes nothing.
+use asked::Asked;
 use clause::Encoding;
 use clause::Hard;
-use clause::Picked;
 use clause::Side;
 use measure::Lengths;
 use refusal::Refusal;
-use table::Checked;
 use table::Counts;
 ghost use mathlib.Core.Path.{_≡_};
 ghost use Prim.Native.Nat.{_+_, _^_, _≤_, _<_};
@@ -235,11 +234,8 @@ pub fn write_wcnf(
         (now (first .entry)) (now (second .entry)) (now (text .entry))
         r (now (first .exit)) (now (second .exit)) (now (text .exit)) ⌝ }
 {
-    match clause::pick(hard, side) {
-        Picked::Unknown => Written::Refused(Refusal::Choice),
-        Picked::Known(e) => match table::check(words) {
-            Checked::Refused(f) => Written::Refused(f),
-            Checked::Accepted(counts) => write_checked(words, counts, e, first, second, text),
-        },
+    match asked::ask(words, hard, side) {
+        Asked::Refused(f) => Written::Refused(f),
+        Asked::Ready(e, counts) => write_checked(words, counts, e, first, second, text),
     }
 }
