@@ -1,14 +1,12 @@
 -- How long the texts are, exactly and at most; a turn of the loop over a plan.
 use mathlib.Core.Path.{_≡_}
 use mathlib.Core.List.{List, [], _∷_, _++_, flatMap}
-use Prim.Native.Nat.{ℕ, suc, _+_, _*_, _^_, _≤_, _<_}
+use Prim.Native.Nat.{ℕ, suc, _+_, _^_, _≤_, _<_}
 use native.Mathlib.Omega.{arith}
 use native.Mathlib.Numerals.{add-one}
 use lib.ListN.{length, length-append, getD, drop, drop-of-length-le}
 use lib.Seq.{drop-cons}
 use Rattle.lists.specs.Decimal.{digits}
-use Rattle.lists.specs.Lists.{Each}
-use Rattle.lists.proofs.Sums.{sum-most, length-flat}
 use Rattle.lists.proofs.Decimal.{length-digits}
 use Rattle.refusal.specs.declared.Refusal.{Refusal}
 use Rattle.refusal.specs.declared.Refusal.the-variants.{Missing, Extra, Count, Domain, Partner, Weight, Mask, Choice, Room, Length, Entry, Broken, Line}
@@ -40,17 +38,12 @@ values-end l i h = rw (drop-of-length-le l {i = i} h)
 short-line : (key : List ℕ) (k n : ℕ) → n < 10 ^ suc k → length (lineOf key n) ≤ length key + suc k + 1
 short-line key k n h = omega (arith, length-line key n, length-digits k n h)
 
--- values are 32-bit words and a cost is one of 64 bits
-pub short-answer : (plan : List ℕ) (cost : ℕ) → Each (λ v. v < 2 ^ 32) plan → cost < 2 ^ 64 → length (answerText plan cost) ≤ length plan * 17 + 26
-unfolding valueLines
-short-answer plan cost e h =
-    let lines : length (flatMap valueLine plan) ≤ length plan * 17 =
-    rw length-flat (sum-most (λ v. length (valueLine v)) 17 plan (short-values plan e)) in
-    omega (arith, length-answer plan cost, lines, short-line costKey 19 cost (omega arith))
-  where
-    short-values : (l : List ℕ) → Each (λ v. v < 2 ^ 32) l → Each (λ v. length (valueLine v) ≤ 17) l
-    short-values [] e = tt
-    short-values (v ∷ l) (h, e) = (short-line valueKey 9 v (omega arith), short-values l e)
+-- a value is a 32-bit word, and a cost one of 64 bits
+pub short-value : (v : ℕ) → v < 2 ^ 32 → length (valueLine v) ≤ 17
+short-value v h = short-line valueKey 9 v (omega arith)
+
+pub short-cost : (cost : ℕ) → cost < 2 ^ 64 → length (costLine cost) ≤ 26
+short-cost cost h = short-line costKey 19 cost (omega arith)
 
 small-number : (f : Refusal) → numberOf f < 100
 small-number (Missing at) = omega arith

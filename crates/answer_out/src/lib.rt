@@ -1,7 +1,7 @@
 // The texts that the programs print but for the clauses: a plan's value lines and its cost line, and the line of a refusal. Each is
 // put into a lent slice of bytes as text_out puts, so the same function measures and writes.
 use refusal::Refusal;
-ghost use Prim.Native.Nat.{_+_, _^_, _<_};
+ghost use Prim.Native.Nat.{_+_, _*_, _^_, _≤_, _<_};
 ghost use lib.ListN.{length};
 ghost use Rattle.lists.specs.Stores.{Wrote};
 ghost use Rattle.text_out.specs.Texts.{lineOf};
@@ -17,25 +17,26 @@ fn put_long_line(out: &mut [u8], at: usize, key: &[u8], n: u64) -> usize
     text_out::put_byte(out, feed, 10)
 }
 
-// The line of one box's value.
+// The line of one box's value: at most 17 bytes.
 pub fn put_value(out: &mut [u8], at: usize, v: u32) -> usize
-    requires { ⌜ at + length (valueLine v) < 2 ^ 64 ⌝ }
-    ensures { λ r. ⌜ Wrote (now (out .entry)) at (valueLine v) r (now (out .exit)) ⌝ }
+    requires { ⌜ at + 17 < 2 ^ 64 ⌝ }
+    ensures { λ r. ⌜ Wrote (now (out .entry)) at (valueLine v) r (now (out .exit)) × (r ≤ at + 17) ⌝ }
 {
     text_out::put_line(out, at, b"value=", v)
 }
 
+// The line of the cost: at most 26 bytes.
 pub fn put_cost(out: &mut [u8], at: usize, cost: u64) -> usize
-    requires { ⌜ at + length (costLine cost) < 2 ^ 64 ⌝ }
+    requires { ⌜ at + 26 < 2 ^ 64 ⌝ }
     ensures { λ r. ⌜ Wrote (now (out .entry)) at (costLine cost) r (now (out .exit)) ⌝ }
 {
     put_long_line(out, at, b"cost=", cost)
 }
 
-// The value lines of a plan, box by box.
+// The value lines of a plan, box by box: at most 17 bytes each.
 fn put_values(out: &mut [u8], from: usize, plan: &[u32]) -> usize
-    requires { ⌜ from + length (valueLines (now plan)) < 2 ^ 64 ⌝ }
-    ensures { λ r. ⌜ Wrote (now (out .entry)) from (valueLines (now (plan .entry))) r (now (out .exit)) ⌝ }
+    requires { ⌜ from + 17 * length (now plan) < 2 ^ 64 ⌝ }
+    ensures { λ r. ⌜ Wrote (now (out .entry)) from (valueLines (now (plan .entry))) r (now (out .exit)) × (r ≤ from + 17 * length (now (plan .entry))) ⌝ }
 {
     let mut at = from;
     let mut i = 0;
@@ -46,9 +47,9 @@ fn put_values(out: &mut [u8], from: usize, plan: &[u32]) -> usize
     at
 }
 
-// What `decode` prints of a plan and its cost.
+// What `decode` prints of a plan and its cost: at most 17 bytes for each box and 26 more.
 pub fn put_answer(out: &mut [u8], at: usize, plan: &[u32], cost: u64) -> usize
-    requires { ⌜ at + length (answerText (now plan) cost) < 2 ^ 64 ⌝ }
+    requires { ⌜ at + 17 * length (now plan) + 26 < 2 ^ 64 ⌝ }
     ensures { λ r. ⌜ Wrote (now (out .entry)) at (answerText (now (plan .entry)) cost) r (now (out .exit)) ⌝ }
 {
     let last = put_values(out, at, plan);

@@ -15,20 +15,13 @@ ghost use Rattle.table.specs.Answers.{Counted};
 
 // Text is gathered until 65536 bytes are full. No part is longer than that, so a buffer of twice as many holds what stands there and the
 // next part. A cursor of 65536 says that a write failed: then no more is put and no more is written.
-fn send(text: &[u8], n: usize) -> bool {
-    if n <= text.len() {
-        return io::write_all(1, &text[..n]);
-    }
-    false
-}
-
 fn drained(text: &[u8], at: usize) -> usize
     ensures { λ r. ⌜ r ≤ 65536 ⌝ }
 {
     if at < 65536 {
         return at;
     }
-    if send(text, at) {
+    if prints::send(text, at) {
         return 0;
     }
     65536
@@ -181,19 +174,13 @@ fn print_all(words: &[u32], counts: Counts, e: Encoding)
         boxes,
     );
     if end < 65536 {
-        send(&text, end);
+        prints::send(&text, end);
     }
-}
-
-fn refuse(f: Refusal) {
-    let mut line = [0u8; 64];
-    let n = answer_out::put_refused(&mut line, 0, f);
-    send(&line, n);
 }
 
 fn print_words(words: &[u32], hard: u32, side: u32) {
     match asked::ask(words, hard, side) {
-        Asked::Refused(f) => refuse(f),
+        Asked::Refused(f) => prints::refuse(f),
         Asked::Ready(e, counts) => print_all(words, counts, e),
     }
 }
@@ -202,7 +189,7 @@ fn print_words(words: &[u32], hard: u32, side: u32) {
 fn judge(sheet: &[u8]) {
     let mut table = [0u32; 4930];
     match sheet_in::read_sheet(sheet, &mut table) {
-        ReadSheet::Refused(f) => refuse(f),
+        ReadSheet::Refused(f) => prints::refuse(f),
         ReadSheet::Read(hard, side, n) => print_words(&table[..n], hard, side),
     }
 }
@@ -212,7 +199,7 @@ fn main() {
     let mut input = [0u8; 65537];
     let got = io::read_full(0, &mut input);
     if got > 65536 {
-        refuse(Refusal::Room(0));
+        prints::refuse(Refusal::Room(0));
         return;
     }
     judge(&input[..got]);

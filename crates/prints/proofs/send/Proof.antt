@@ -2,8 +2,8 @@
 use lib.Seq.{length-take-le}
 use mathlib.Core.Path.{sym}
 use borrow.Author.Needs.{needs}
-use Rattle.encode.proofs.send.Statement.{statement}
-use Rattle.encode.proofs.send.Tie as tie
+use Rattle.prints.proofs.send.Statement.{statement}
+use Rattle.prints.proofs.send.Tie as tie
 
 slice-aggregate-write-all : tie.Need-slice-aggregate-write-all
 slice-aggregate-write-all c = sym (length-take-le _ _ (c .before .if1 .taken))
