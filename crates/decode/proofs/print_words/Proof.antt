@@ -1,37 +1,34 @@
+-- A table that was checked has at most 64 boxes.
+use Rattle.table.proofs.Answers.{checked-accepted}
+use Rattle.table.proofs.Tables.{counted-start}
+use mathlib.Core.Path.{sym, _∙_}
+use native.Mathlib.Omega.{arith}
 use borrow.Author.Needs.{needs}
 use Rattle.decode.proofs.print_words.Statement.{statement}
 use Rattle.decode.proofs.print_words.Tie as tie
-use Rattle.decode.proofs.print_words.Reads as reads
-use Rattle.decode.proofs.print_words.Lts as lts
-use Rattle.decode.proofs.print_decoded.Reads as print-decoded-reads
-use Rattle.prints.proofs.refuse.Reads as refuse-reads
-use Rattle.table.proofs.check.Reads as check-reads
 
--- src/main.rt:40:11
 check-requires : tie.Need-check-requires
 check-requires c κs = search needs
 
--- src/main.rt:41:26
 enum-known-f : tie.Need-enum-known-f
 enum-known-f c = search needs
 
--- src/main.rt:41:32
 refuse-requires : tie.Need-refuse-requires
 refuse-requires c κs = search needs
 
--- src/main.rt:42:27
 enum-known-counts : tie.Need-enum-known-counts
 enum-known-counts c = search needs
 
--- src/main.rt:44:13
 print-decoded-requires : tie.Need-print-decoded-requires
-print-decoded-requires c κs = ?
+print-decoded-requires c κs =
+    let s = c .before .before .before .before .before .before in
+    let C = checked-accepted (s .args .words .now) (sym (c .before .before .before .check .ensures) ∙ c .before .counts .given .1) in
+    let b = counted-start (s .args .words .now) _ C in
+    omega (arith, b .boxes, b .few-boxes)
 
--- src/main.rt:39:1
 returns : tie.Need-returns
 returns c = search needs
 
--- src/main.rt:39:1
 returns-2 : tie.Need-returns-2
 returns-2 c = search needs
 
