@@ -84,30 +84,29 @@ row-long (suc m) (c ∷ l) e =
     let b = and-both (leb c 49) _ (a .1) in
     omega (arith, row-long m l (b .1))
 
--- ---- the loop that goes from the last bit down: i is one past the bit that a turn takes in
+-- ---- the loop that goes from the last value down: j is the value that a turn takes in
 
 pub value-none : (m : ℕ) (l : List ℕ) → m ≡ 0 → valueOf m l ≡ 0
 unfolding valueOf
 value-none zero l e = refl
 value-none (suc m) l e = absurd (omega arith)
 
-module _ (s : List ℕ) (at m i : ℕ) (r : isRow m (drop at s) ≡ true) (h : at < i) (k : i ≤ at + m) where
-  pub turn-bit : Bit s (i - 1)
+module _ (s : List ℕ) (at m j : ℕ) (r : isRow m (drop at s) ≡ true) (h : 1 ≤ j) (k : j ≤ m) where
+  pub turn-bit : Bit s (at + (j - 1))
   turn-bit =
-      let b = row-bit m (drop at s) r (i - 1 - at) (omega arith) in
-      let e : at + (i - 1 - at) ≡ i - 1 = omega arith in
-      let g : getD (drop at s) (i - 1 - at) 0 ≡ getD s (i - 1) 0 = getD-drop at s (i - 1 - at) 0 ∙ ap (λ (n : ℕ). getD s n 0) e in
+      let b = row-bit m (drop at s) r (j - 1) (omega arith) in
+      let g = getD-drop at s (j - 1) 0 in
       record { within = omega (arith, b .within, length-drop at s); low = rw g at (b .low); high = rw g at (b .high) }
 
-  pub turn-value : (v : ℕ) → v ≡ valueOf (at + m - i) (drop i s) → v * 2 + (getD s (i - 1) 0 - 48) ≡ valueOf (at + m - (i - 1)) (drop (i - 1) s)
+  pub turn-value : (v : ℕ) → v ≡ valueOf (m - j) (drop (at + j) s) → v * 2 + (getD s (at + (j - 1)) 0 - 48) ≡ valueOf (m - (j - 1)) (drop (at + (j - 1)) s)
   turn-value v e =
-      let n : at + m - (i - 1) ≡ suc (at + m - i) = omega arith in
-      let j : i - 1 + 1 ≡ i = omega arith in
-      rw n (rw (e, value-step s (i - 1) (turn-bit .within) (at + m - i), j))
+      let n : m - (j - 1) ≡ suc (m - j) = omega arith in
+      let i : at + (j - 1) + 1 ≡ at + j = omega arith in
+      rw n (rw (e, value-step s (at + (j - 1)) (turn-bit .within) (m - j), i))
 
-  pub turn-small : (v : ℕ) → v < 2 ^ (at + m - i) → v * 2 + (getD s (i - 1) 0 - 48) < 2 ^ (at + m - (i - 1))
+  pub turn-small : (v : ℕ) → v < 2 ^ (m - j) → v * 2 + (getD s (at + (j - 1)) 0 - 48) < 2 ^ (m - (j - 1))
   turn-small v e =
-      let n : at + m - (i - 1) ≡ suc (at + m - i) = omega arith in
+      let n : m - (j - 1) ≡ suc (m - j) = omega arith in
       rw (n, pow-suc) (omega (arith, turn-bit .high))
 
 pub small-32 : (v k : ℕ) → k ≤ 32 → v < 2 ^ k → v < 2 ^ 32

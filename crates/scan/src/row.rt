@@ -3,8 +3,8 @@ use crate::Line;
 use crate::starts;
 ghost use mathlib.Core.Path.{_≡_};
 ghost use mathlib.Core.Bool.{true};
-ghost use Prim.Native.Nat.{_≤_};
-ghost use lib.ListN.{drop};
+ghost use Prim.Native.Nat.{_+_, _-_, _≤_};
+ghost use lib.ListN.{getD, drop};
 ghost use Rattle.scan.specs.Rows.{isRow, valueOf, rowAt};
 
 // Whether `m` characters 0 or 1 and a line feed stand at `at`.
@@ -30,17 +30,27 @@ fn is_row(s: &[u8], at: usize, m: usize) -> bool
     false
 }
 
+// The bit of value `j`, of the `m` values whose row stands at `at`.
+fn bit_of(s: &[u8], at: usize, m: usize, j: usize) -> u64
+    requires { ⌜ isRow m (drop at (now s)) ≡ true ⌝ }
+    requires { ⌜ (1 ≤ j) × (j ≤ m) ⌝ }
+    ensures { λ r. ⌜ (r ≡ getD (now (s .entry)) (at + (j - 1)) 0 - 48) × (r ≤ 1) ⌝ }
+{
+    let i = at + (j - 1);
+    (s[i] - 48) as u64
+}
+
 // The mask of the row that stands at `at`, from its last character, which is the highest bit, to its first.
 fn mask_of(s: &[u8], at: usize, m: usize) -> u32
     requires { ⌜ isRow m (drop at (now s)) ≡ true ⌝ }
     requires { ⌜ m ≤ 32 ⌝ }
     ensures { λ r. ⌜ r ≡ valueOf m (drop at (now (s .entry))) ⌝ }
 {
-    let mut i = at + m;
+    let mut j = m;
     let mut v: u64 = 0;
-    while at < i {
-        i -= 1;
-        v = v * 2 + (s[i] - 48) as u64;
+    while 0 < j {
+        v = v * 2 + bit_of(s, at, m, j);
+        j -= 1;
     }
     v as u32
 }
