@@ -1,7 +1,10 @@
 //! A second implementation, from the scope document alone, and what it is compared with. Usage: see `USAGE`.
 
 mod brute;
+mod cases;
 mod clauses;
+mod compare;
+mod damage;
 mod encode;
 mod examples;
 mod made;
@@ -19,13 +22,33 @@ use tally::Tally;
 
 const USAGE: &str = "second selftest
 second encode | second decode                the two programs, from standard input to standard output
+second gen SEED COUNT [FOLDER]               the cases for each program: a line each, or the files in FOLDER
+second compare ENCODE DECODE SEED [COUNT]    runs two commands on these cases
 ";
+
+/// The cases of a seed, with what the programs should print.
+fn generate(seed: u64, count: usize, folder: Option<&String>) -> std::io::Result<()> {
+    for (number, case) in cases::cases(seed, count).enumerate() {
+        let name = format!("{number:04}-{:?}", case.program).to_lowercase();
+        let first = case.expected.split(|&byte| byte == b'\n').next().unwrap_or(b"");
+        println!("{name} | {} | {} bytes | {}", case.kind, case.input.len(), String::from_utf8_lossy(first));
+        if let Some(folder) = folder {
+            std::fs::write(format!("{folder}/{name}.in"), &case.input)?;
+            std::fs::write(format!("{folder}/{name}.out"), &case.expected)?;
+        }
+    }
+    Ok(())
+}
 
 /// Standard input through one of the two programs.
 fn through(program: fn(&[u8]) -> Vec<u8>) -> std::io::Result<()> {
     let mut input = Vec::new();
     std::io::stdin().read_to_end(&mut input)?;
     std::io::stdout().write_all(&program(&input))
+}
+
+fn number(words: &[String], at: usize, otherwise: u64) -> u64 {
+    words.get(at).map_or(otherwise, |word| word.parse().expect("a number"))
 }
 
 fn main() {
@@ -48,6 +71,10 @@ fn main() {
         }
         (Some("encode"), 1) => done(through(programs::encode)),
         (Some("decode"), 1) => done(through(programs::decode)),
+        (Some("gen"), 3..=4) => done(generate(number(&words, 1, 0), number(&words, 2, 0) as usize, words.get(3))),
+        (Some("compare"), 4..=5) => {
+            compare::compare(&words[1], &words[2], number(&words, 3, 0), number(&words, 4, 300) as usize)
+        }
         _ => {
             eprint!("{USAGE}");
             2
