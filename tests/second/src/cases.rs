@@ -42,9 +42,11 @@ const LONG: [&str; 7] = [
 ];
 
 /// Lists that may be wrong, for `decode`.
-const LISTS: [&str; 10] = [
+const LISTS: [&str; 12] = [
     "list too short",
     "list too long",
+    "list far too long",
+    "list far too long and bad list character at its end",
     "list empty",
     "list line missing",
     "bad list character",
@@ -94,33 +96,38 @@ fn input_with_list(random: &mut Random, kind: usize) -> Vec<u8> {
     let mut entries = list(random, &made);
     let at = random.below(entries.len());
     let mut after: &[u8] = b"";
-    match kind {
-        0 => entries.truncate(entries.len() - 1 - random.below(entries.len().min(3))),
-        1 => entries.extend(vec![0; random.between(1, 3)]),
-        2 => entries.clear(),
-        3 => return write(&made),
-        4 => entries[at] = 2,
-        5 => {
+    match LISTS[kind] {
+        "list too short" => entries.truncate(entries.len() - 1 - random.below(entries.len().min(3))),
+        "list too long" => entries.extend(vec![0; random.between(1, 3)]),
+        "list far too long" => entries.extend(vec![0; random.between(2_000, 50_000)]),
+        "list far too long and bad list character at its end" => {
+            entries.extend(vec![1; random.between(2_000, 50_000)]);
+            entries.push(2);
+        }
+        "list empty" => entries.clear(),
+        "list line missing" => return write(&made),
+        "bad list character" => entries[at] = 2,
+        "list too short and bad list character" => {
             entries[at] = 2;
             entries.remove(if at == 0 { entries.len() - 1 } else { 0 });
         }
-        6 => {
+        "list too short and input after it" => {
             entries.pop();
             after = b"x";
         }
-        7 => {
-            let any = random.below(3);
-            entries.iter_mut().for_each(|entry| *entry = if any < 2 { any as u32 } else { random.below(2) as u32 });
-        }
-        8 => entries[at] ^= 1,
-        _ => {
+        "one entry of the list flipped" => entries[at] ^= 1,
+        "two neighbours of the list flipped" => {
             let next = (at + 1) % entries.len();
             entries[at] ^= 1;
             entries[next] ^= 1;
         }
+        _ => {
+            let any = random.below(3);
+            entries.iter_mut().for_each(|entry| *entry = if any < 2 { any as u32 } else { random.below(2) as u32 });
+        }
     }
     let mut line = list_line(&entries);
-    if kind == 4 {
+    if LISTS[kind] == "bad list character" {
         line["list=".len() + at] = *random.pick(b"2 -x/:\0\r");
     }
     [write(&made), line, after.to_vec()].concat()
@@ -131,7 +138,7 @@ fn case(seed: u64, program: Program, index: usize) -> Case {
     let mut random = Random::of(seed, 2 * index as u64 + (program == Program::Decode) as u64);
     let random = &mut random;
     let lists = if program == Program::Decode { LISTS.len() } else { 0 };
-    let mut number = index % (SIZED.len() + LONG.len() + DAMAGES.len() + lists);
+    let mut number = index % (SIZED.len() + EXTREMES.len() + LONG.len() + DAMAGES.len() + lists);
     let mut below = |count: usize| {
         let found = (number < count).then_some(number);
         number = number.wrapping_sub(count);
@@ -140,6 +147,9 @@ fn case(seed: u64, program: Program, index: usize) -> Case {
     let (kind, input) = if let Some(at) = below(SIZED.len()) {
         let made = sheet(random, &SIZED[at].1);
         (SIZED[at].0, input_of(random, program, &made))
+    } else if let Some(at) = below(EXTREMES.len()) {
+        let made = extreme(random, at);
+        (EXTREMES[at], input_of(random, program, &made))
     } else if let Some(at) = below(LONG.len()) {
         (LONG[at], long_input(random, program, at))
     } else if let Some(at) = below(DAMAGES.len()) {

@@ -6,11 +6,12 @@ use crate::random::Random;
 pub type Damage = fn(&mut Random, Vec<u8>) -> Vec<u8>;
 
 /// Each way with its name, in the order in which they are tried.
-pub const DAMAGES: [(&str, Damage); 22] = [
+pub const DAMAGES: [(&str, Damage); 23] = [
     ("byte changed", byte_changed),
     ("digit changed", digit_changed),
     ("byte removed", byte_removed),
     ("byte inserted", byte_inserted),
+    ("byte repeated many times", byte_repeated),
     ("cut", cut),
     ("cut at a line's end", cut_at_line),
     ("no last line feed", no_last_line_feed),
@@ -54,6 +55,14 @@ fn byte_removed(random: &mut Random, mut input: Vec<u8>) -> Vec<u8> {
 
 fn byte_inserted(random: &mut Random, mut input: Vec<u8>) -> Vec<u8> {
     input.insert(random.between(0, input.len()), *random.pick(BYTES));
+    input
+}
+
+/// A number, a row or a list of thousands of characters, or thousands of empty lines.
+fn byte_repeated(random: &mut Random, mut input: Vec<u8>) -> Vec<u8> {
+    let at = random.below(input.len());
+    let many = *random.pick(&[20, 300, 5_000, 50_000]);
+    input.splice(at..at, vec![input[at]; many]);
     input
 }
 

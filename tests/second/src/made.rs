@@ -5,7 +5,7 @@ use crate::plan::make_list;
 use crate::programs::{choice_numbers, MOST_INPUT};
 use crate::random::Random;
 use crate::sheet::{write, Sheet};
-use crate::table::{words_of, Pair, Side, Table, HARDS, SIDES};
+use crate::table::{words_of, Hard, Pair, Side, Table, HARDS, SIDES};
 
 /// Numbers of boxes, values and pairs: least and most.
 pub struct Sizes {
@@ -73,6 +73,34 @@ pub fn table(random: &mut Random, sizes: &Sizes) -> Table {
 
 pub fn sheet(random: &mut Random, sizes: &Sizes) -> Sheet {
     Sheet { hard: random.pick(&HARDS).0, side: random.pick(&SIDES).0, table: table(random, sizes) }
+}
+
+/// The most that a part of the output, a sum or a list can be.
+pub const EXTREMES: [&str; 3] = ["16 and 16 values, none allowed", "the largest top and cost", "the longest list"];
+
+pub fn extreme(random: &mut Random, kind: usize) -> Sheet {
+    let (hard, side) = (random.pick(&HARDS).0, random.pick(&SIDES).0);
+    let forbidding = |first: usize, second: usize, domains: &[usize]| Pair {
+        first,
+        second,
+        weight: 1_000_000,
+        allowed: vec![vec![false; domains[second - 1]]; domains[first - 1]],
+    };
+    let (domains, count) = match kind {
+        0 => (vec![16; 2], 1),
+        1 => (vec![2; 64], 256),
+        // a pair takes as many rows as its first box has values: one box with one row leaves room for 256 pairs
+        _ => ([vec![1], vec![16; 63]].concat(), 256),
+    };
+    let pairs = (0..count).map(|_| {
+        let first = if kind == 2 { 1 } else { random.between(1, domains.len()) };
+        forbidding(first, first % domains.len() + 1, &domains)
+    });
+    let table = Table { pairs: pairs.collect(), domains };
+    if kind == 2 {
+        return Sheet { hard: Hard::Regular, side: Side::Support, table };
+    }
+    Sheet { hard, side, table }
 }
 
 /// A plan's list, with any c_k: no hard clause names them.
