@@ -10,8 +10,8 @@ use crate::sheet::{read, write, Sheet};
 use crate::table::{check, choices, words_of, Table};
 use crate::tally::Tally;
 
-const TINY: Sizes = Sizes { boxes: (1, 3), values: (1, 3), pairs: (0, 3) };
-const MOST_VARIABLES: usize = 15;
+const TINY: Sizes = Sizes { boxes: (1, 3), values: (1, 4), pairs: (0, 3) };
+const MOST_VARIABLES: usize = 17;
 
 /// All plans.
 fn plans(table: &Table) -> Vec<Vec<u32>> {
@@ -84,6 +84,7 @@ fn wanted(table: &Table, hard: u32, side: u32) -> Found {
 
 pub fn all(tally: &mut Tally, seed: u64, tables: usize) {
     let mut random = Random::from(seed);
+    let (mut encodings, mut lists) = (0, 0);
     for index in 0..tables {
         let table = table(&mut random, &TINY);
         tally.equal("words of a table, checked", check(&words_of(&table)), Ok(table.clone()));
@@ -95,7 +96,11 @@ pub fn all(tally: &mut Tally, seed: u64, tables: usize) {
                 continue;
             }
             let name = format!("every list of table {index}, {:?}, hard part {hard}, side {side}", words_of(&table));
-            tally.equal(&name, every_list(&table, hard, side), wanted(&table, hard, side));
+            let found = every_list(&table, hard, side);
+            encodings += 1;
+            lists += found.lists;
+            tally.equal(&name, found, wanted(&table, hard, side));
         }
     }
+    println!("every list of {encodings} encodings of {tables} small tables: {lists} lists");
 }
