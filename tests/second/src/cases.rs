@@ -138,7 +138,8 @@ fn case(seed: u64, program: Program, index: usize) -> Case {
     let mut random = Random::of(seed, 2 * index as u64 + (program == Program::Decode) as u64);
     let random = &mut random;
     let lists = if program == Program::Decode { LISTS.len() } else { 0 };
-    let mut number = index % (SIZED.len() + EXTREMES.len() + LONG.len() + DAMAGES.len() + lists);
+    let kinds = SIZED.len() + EXTREMES.len() + PAST.len() + LONG.len() + DAMAGES.len() + lists;
+    let mut number = index % kinds;
     let mut below = |count: usize| {
         let found = (number < count).then_some(number);
         number = number.wrapping_sub(count);
@@ -150,6 +151,10 @@ fn case(seed: u64, program: Program, index: usize) -> Case {
     } else if let Some(at) = below(EXTREMES.len()) {
         let made = extreme(random, at);
         (EXTREMES[at], input_of(random, program, &made))
+    } else if let Some(at) = below(PAST.len()) {
+        let sheet = write(&past_limit(random, at, index / kinds));
+        // it is refused before the list is looked at
+        (PAST[at], if program == Program::Decode { [sheet, b"list=01\n".to_vec()].concat() } else { sheet })
     } else if let Some(at) = below(LONG.len()) {
         (LONG[at], long_input(random, program, at))
     } else if let Some(at) = below(DAMAGES.len()) {

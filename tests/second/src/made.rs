@@ -103,6 +103,44 @@ pub fn extreme(random: &mut Random, kind: usize) -> Sheet {
     Sheet { hard, side, table }
 }
 
+/// Sheets with one number past its limit and all else fitting, so that nothing but this number can be refused.
+pub const PAST: [&str; 4] = [
+    "boxes or pairs past a limit",
+    "a domain size past a limit",
+    "a weight past a limit",
+    "a box of a pair that is not there",
+];
+
+/// Each limit has its turn, by the number of the round.
+pub fn past_limit(random: &mut Random, kind: usize, round: usize) -> Sheet {
+    let sizes = match (kind, round % 3) {
+        (0, 0) => Sizes { boxes: (65, 65), values: (1, 2), pairs: (0, 3) },
+        (0, 1) => Sizes { boxes: (2, 5), values: (1, 2), pairs: (257, 257) },
+        _ => Sizes { boxes: (2, 4), values: (1, 4), pairs: (1, 3) },
+    };
+    let mut made = sheet(random, &sizes);
+    let boxes = made.table.domains.len();
+    let pair = random.below(made.table.pairs.len().max(1));
+    match (kind, round % 2, round % 4) {
+        (0, ..) if round % 3 == 2 => made.table = Table { domains: vec![], pairs: vec![] },
+        (0, ..) => (),
+        (1, odd, _) => {
+            let number = random.between(1, boxes);
+            made.table.domains[number - 1] = if odd == 0 { 17 } else { 0 };
+            let domains = made.table.domains.clone();
+            for pair in &mut made.table.pairs {
+                pair.allowed = vec![vec![true; domains[pair.second - 1]]; domains[pair.first - 1]];
+            }
+        }
+        (2, odd, _) => made.table.pairs[pair].weight = if odd == 0 { 0 } else { 1_000_001 },
+        (_, _, 0) => made.table.pairs[pair].first = 0,
+        (_, _, 1) => made.table.pairs[pair].first = boxes + 1,
+        (_, _, 2) => made.table.pairs[pair].second = 0,
+        _ => made.table.pairs[pair].second = boxes + 1,
+    }
+    made
+}
+
 /// A plan's list, with any c_k: no hard clause names them.
 pub fn list(random: &mut Random, sheet: &Sheet) -> Vec<u32> {
     let numbers = Numbers::of(&sheet.table, sheet.hard, sheet.side);
