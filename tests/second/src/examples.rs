@@ -58,6 +58,7 @@ pub fn all(tally: &mut Tally) {
     clause_examples(tally);
     list_examples(tally);
     one_box(tally);
+    dropped(tally);
     four_by_four(tally);
     refusals(tally);
     program_examples(tally);
@@ -109,6 +110,22 @@ fn one_box(tally: &mut Tally) {
     }
     let sheet = b"hard=regular\nside=support\nboxes=1\nvalues=1\npairs=0\n";
     tally.equal("P9, T is 1", programs::encode(sheet), b"p wcnf 1 1 1\n1 1 0\n".to_vec());
+}
+
+/// "A value supported by every value of the other box has no support clause"; "one c_k for each pair k, numbered even if
+/// no clause uses it". No example of the document has such a value. Here X <= Y over three values, and all allowed.
+fn dropped(tally: &mut Tally) {
+    let hard = "1 2 3 0 -1 -2 0 -1 -3 0 -2 -3 0 4 5 6 0 -4 -5 0 -4 -6 0 -5 -6 0";
+    let ordered = [2, 1, 3, 3, 1, 2, 1, 7, 6, 4];
+    tally.equal("dropped, first", clauses(&ordered, 0, 3), (format!("{hard} -2 5 6 0 -3 6 0"), vec![1; 2]));
+    let both = "-2 5 6 7 0 -3 6 7 0 -4 1 -7 0 -5 1 2 -7 0";
+    tally.equal("dropped, support", clauses(&ordered, 0, 2), (format!("{hard} {both}"), vec![1; 4]));
+    let all = [2, 1, 3, 3, 1, 2, 1, 7, 7, 7];
+    for side in 1..6 {
+        tally.equal("all allowed", clauses(&all, 0, side), (hard.to_string(), vec![]));
+        let variables = measure(&all, 0, side).unwrap().variables;
+        tally.equal("all allowed, c_1 has a number", variables, if side == 2 { 7 } else { 6 });
+    }
 }
 
 pub fn every_choice() -> impl Iterator<Item = (u32, u32)> {
