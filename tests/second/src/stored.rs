@@ -3,7 +3,7 @@
 
 use crate::brute::every_list;
 use crate::clauses::all_clauses;
-use crate::encode::lengths_of;
+use crate::encode::{lengths_of, measure};
 use crate::examples::{encoded, every_choice, After, EXAMPLE};
 use crate::made::weight;
 use crate::plan::{decode, make_list, plan_cost};
@@ -165,6 +165,30 @@ fn clause_cases(stored: &mut Stored, tally: &mut Tally) {
         let plan = call[4].numbers().expect("a plan");
         let length = make_list(&EXAMPLE, call[2].number(), call[3].number(), plan, &mut list);
         stored.hold_line(tally, &call[0].text(), said(length, |length| format!("{} ", listed(&list[..length]))));
+    }
+    for (label, side) in [("direct", 1), ("literals", 4), ("score", 5), ("no such side", 6)] {
+        let found = measure(&[2, 1, 4, 4, 1, 2, 1, 14, 0, 0, 0], 0, side);
+        let shown = said(found, |lengths| format!("{} {}", lengths.first_scratch, lengths.second_scratch));
+        stored.hold_line(tally, &format!("scratch for {label}: "), shown);
+    }
+    clause_rooms(stored, tally);
+}
+
+/// Side 5 of the example with buffers that just hold everything, and with some of them one entry shorter.
+fn clause_rooms(stored: &mut Stored, tally: &mut Tally) {
+    let rooms = [
+        ("just enough: ", [6, 8, 27, 9]),
+        ("first short: ", [5, 8, 27, 9]),
+        ("second short: ", [6, 7, 27, 9]),
+        ("literals short: ", [6, 8, 26, 9]),
+        ("weights short: ", [6, 8, 27, 8]),
+        ("all short: ", [5, 7, 26, 8]),
+    ];
+    for (label, room) in rooms {
+        let After { answer, first, second, literals, weights } = encoded(&EXAMPLE, 0, 5, room);
+        let answer = said(answer, |(entries, count)| format!("{entries} entries {count} weights"));
+        let left = format!("left: {} {} {} {} ", first[0], second[0], literals[0], weights[0]);
+        stored.hold(tally, label, &[format!("{label}{answer}"), left]);
     }
 }
 
