@@ -1,0 +1,76 @@
+-- Decided by the inputs: bytes, lines and numbers in and out, what the programs print, the list line, and WCNF text.
+use Rattle.outcomes.specs.Decided.{Decided}
+use Rattle.outcomes.proofs.Law.{same, decided}
+use Rattle.text_out.proofs as text-out
+use Rattle.scan.proofs as scan
+use Rattle.answer_out.proofs as answer-out
+use Rattle.list_scan.proofs as list-scan
+use Rattle.wcnf.proofs as wcnf
+use Rattle.wcnf_parts.proofs as wcnf-parts
+use Rattle.wcnf_out.proofs as wcnf-out
+
+pub text-out-put-byte-decided : Decided text-out.put_byte.ended text-out.put_byte.Reads.Post
+text-out-put-byte-decided = decided λ _ _ _ _ p q. search same
+
+pub text-out-put-bytes-decided : Decided text-out.put_bytes.ended text-out.put_bytes.Reads.Post
+text-out-put-bytes-decided = decided λ _ _ _ _ p q. search same
+
+pub text-out-put-number-decided : Decided text-out.put_number.ended text-out.put_number.Reads.Post
+text-out-put-number-decided = decided λ _ _ _ _ p q. search same
+
+pub text-out-put-line-decided : Decided text-out.put_line.ended text-out.put_line.Reads.Post
+text-out-put-line-decided = decided λ _ _ _ _ p q. search same
+
+pub text-out-put-row-decided : Decided text-out.put_row.ended text-out.put_row.Reads.Post
+text-out-put-row-decided = decided λ _ _ _ _ p q. search same
+
+pub scan-starts-decided : Decided scan.starts.ended scan.starts.Reads.Post
+scan-starts-decided = decided λ _ _ _ _ p q. search same
+
+pub scan-number-at-decided : Decided scan.number_at.ended scan.number_at.Reads.Post
+scan-number-at-decided = decided λ _ _ _ _ p q. search same
+
+pub scan-number-line-decided : Decided scan.number_line.ended scan.number_line.Reads.Post
+scan-number-line-decided = decided λ _ _ _ _ p q. search same
+
+pub scan-word-line-decided : Decided scan.word_line.ended scan.word_line.Reads.Post
+scan-word-line-decided = decided λ _ _ _ _ p q. search same
+
+pub scan-row-line-decided : Decided scan.row_line.ended scan.row_line.Reads.Post
+scan-row-line-decided = decided λ _ _ _ _ p q. search same
+
+pub answer-out-put-value-decided : Decided answer-out.put_value.ended answer-out.put_value.Reads.Post
+answer-out-put-value-decided = decided λ _ _ _ _ p q. search same
+
+pub answer-out-put-cost-decided : Decided answer-out.put_cost.ended answer-out.put_cost.Reads.Post
+answer-out-put-cost-decided = decided λ _ _ _ _ p q. search same
+
+pub answer-out-put-answer-decided : Decided answer-out.put_answer.ended answer-out.put_answer.Reads.Post
+answer-out-put-answer-decided = decided λ _ _ _ _ p q. search same
+
+pub answer-out-put-refused-decided : Decided answer-out.put_refused.ended answer-out.put_refused.Reads.Post
+answer-out-put-refused-decided = decided λ _ _ _ _ p q. search same
+
+pub list-scan-line-start-decided : Decided list-scan.line_start.ended list-scan.line_start.Reads.Post
+list-scan-line-start-decided = decided λ _ _ _ _ p q. search same
+
+pub list-scan-list-line-decided : Decided list-scan.list_line.ended list-scan.list_line.Reads.Post
+list-scan-list-line-decided = decided λ _ _ _ _ p q. search same
+
+pub list-scan-put-list-decided : Decided list-scan.put_list.ended list-scan.put_list.Reads.Post
+list-scan-put-list-decided = decided λ _ _ _ _ p q. search same
+
+pub wcnf-put-header-decided : Decided wcnf.put_header.ended wcnf.put_header.Reads.Post
+wcnf-put-header-decided = decided λ _ _ _ _ p q. search same
+
+pub wcnf-put-clauses-decided : Decided wcnf.put_clauses.ended wcnf.put_clauses.Reads.Post
+wcnf-put-clauses-decided = decided λ _ _ _ _ p q. search same
+
+pub wcnf-parts-put-box-decided : Decided wcnf-parts.put_box.ended wcnf-parts.put_box.Reads.Post
+wcnf-parts-put-box-decided = decided λ _ _ _ _ p q. search same
+
+pub wcnf-parts-put-pair-decided : Decided wcnf-parts.put_pair.ended wcnf-parts.put_pair.Reads.Post
+wcnf-parts-put-pair-decided = decided λ _ _ _ _ p q. search same
+
+pub wcnf-out-write-wcnf-decided : Decided wcnf-out.write_wcnf.ended wcnf-out.write_wcnf.Reads.Post
+wcnf-out-write-wcnf-decided = decided λ _ _ _ _ p q. search same
