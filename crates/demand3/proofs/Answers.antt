@@ -183,16 +183,3 @@ module _ (ws : List ℕ) (t : Table) (A : judged ws ≡ accepted t) (hard side :
             let (o, y) = costed-was (planFault t plan) (cost t plan) (sym (rw A at C)) in
             omega (arith, z, y, demand3.least-list (e .hard) (e .side) t S l P others plan (fine-plan t plan o)),
       )
-
--- ---- the inputs alone decide, for refusals too: two outcomes that are permitted are equal
-
-pub decode-decided : (ws : List ℕ) (hard side : ℕ) (l old : List ℕ) {r q : Decoded} {new after : List ℕ}
-    → Decodes ws hard side l old r new → Decodes ws hard side l old q after → (r ≡ q) × (new ≡ after)
-decode-decided ws hard side l old (a, b) (c, d) = (a ∙ sym c, b ∙ sym d)
-
-pub make-list-decided : (ws : List ℕ) (hard side : ℕ) (plan old : List ℕ) {r q : Made} {new after : List ℕ}
-    → Makes ws hard side plan old r new → Makes ws hard side plan old q after → (r ≡ q) × (new ≡ after)
-make-list-decided ws hard side plan old (a, b) (c, d) = (a ∙ sym c, b ∙ sym d)
-
-pub cost-decided : (ws plan : List ℕ) {r q : Costed} → Costs ws plan r → Costs ws plan q → r ≡ q
-cost-decided ws plan a b = a ∙ sym b
