@@ -2,7 +2,9 @@
 use Prim.Native.Nat.{ℕ}
 use mathlib.Core.List.{List}
 use Rattle.table.specs.Words.{pairAt, pairNext}
+use denote.Ref.{now}
 use Rattle.reader.specs.declared.PairHead.{PairHead}
+use Rattle.reader.specs.declared.Reader.{Reader}
 
 -- the pair's boxes and weight, and the cursor before the next pair
 abbrev pub headAt : List ℕ → ℕ → PairHead
@@ -13,3 +15,7 @@ headAt ws at =
       weight = pairAt ws at .weight;
       next = pairNext ws at;
     }
+
+-- the same words, and the cursor before the next pair
+abbrev pub stepped : Reader → Reader
+stepped r = record { words = r .words; at = pairNext (now (r .words)) (r .at) }
