@@ -129,19 +129,26 @@ fn show_value_at(plan: &[u32], i: usize) {
     }
 }
 
+fn show_no_plan(answer: Decoded) {
+    match answer {
+        Decoded::Refused(f) => says::refused(f),
+        Decoded::Cost(_) => {}
+    }
+}
+
 fn show_plan(name: &[u8], words: &[u32], hard: u32, side: u32, list: &[u8]) {
     let mut plan = [0u32; 2];
     says::text(name);
-    match decoder::decode(words, hard, side, list, &mut plan) {
-        Decoded::Refused(f) => says::refused(f),
-        Decoded::Cost(c) => {
-            show_value_at(&plan, 0);
-            show_value_at(&plan, 1);
-            says::text(b"cost=");
-            says::sum(c);
-            says::text(b"\n");
-        }
-    }
+    let answer = decoder::decode(words, hard, side, list, &mut plan);
+    let Decoded::Cost(c) = answer else {
+        show_no_plan(answer);
+        return;
+    };
+    show_value_at(&plan, 0);
+    show_value_at(&plan, 1);
+    says::text(b"cost=");
+    says::sum(c);
+    says::text(b"\n");
 }
 
 fn show_bit_at(list: &[u8], i: usize) {

@@ -91,17 +91,23 @@ fn is_plan_of(words: &[u32], list: &[u8], plan: &[u32]) -> bool {
     before < 1000
 }
 
+fn hold_no_cost(answer: Decoded, truth: Truth, t: Tally) -> Tally {
+    match answer {
+        Decoded::Refused(f) => hold_refused(f, truth, t),
+        Decoded::Cost(_) => tally::wrong(t),
+    }
+}
+
 fn try_list(words: &[u32], hard: u32, side: u32, truth: Truth, list: &[u8], t: Tally) -> Tally {
     let mut plan = [0u32; 4];
-    match decoder::decode(words, hard, side, list, &mut plan) {
-        Decoded::Refused(f) => hold_refused(f, truth, t),
-        Decoded::Cost(c) => {
-            if is_plan_of(words, list, &plan) {
-                return hold_cost(c, truth, t);
-            }
-            tally::wrong(hold_cost(c, truth, t))
-        }
+    let answer = decoder::decode(words, hard, side, list, &mut plan);
+    let Decoded::Cost(c) = answer else {
+        return hold_no_cost(answer, truth, t);
+    };
+    if is_plan_of(words, list, &plan) {
+        return hold_cost(c, truth, t);
     }
+    tally::wrong(hold_cost(c, truth, t))
 }
 
 fn try_number(

@@ -75,18 +75,16 @@ fn hold_back(
     t: Tally,
 ) -> Tally {
     let mut back = [0u32; 4];
-    match decoder::decode(words, hard, side, list, &mut back) {
-        Decoded::Refused(_) => tally::wrong(t),
-        Decoded::Cost(c) => {
-            if c != cost {
-                return tally::wrong(t);
-            }
-            if !same(plan, &back) {
-                return tally::wrong(t);
-            }
-            tally::accept(t, cost)
-        }
+    let Decoded::Cost(c) = decoder::decode(words, hard, side, list, &mut back) else {
+        return tally::wrong(t);
+    };
+    if c != cost {
+        return tally::wrong(t);
     }
+    if !same(plan, &back) {
+        return tally::wrong(t);
+    }
+    tally::accept(t, cost)
 }
 
 fn hold_plan(

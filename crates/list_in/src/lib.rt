@@ -44,14 +44,12 @@ fn wanted(words: &[u32], hard: u32, side: u32) -> usize
     requires { ⌜ Accepted (now words) ⌝ }
     ensures { λ r. ⌜ r ≡ wanted hard side (now (words .entry)) ⌝ }
 {
-    match clause::pick(hard, side) {
-        Picked::Unknown => 0,
-        Picked::Known(e) => {
-            let part = e.hard;
-            let pair_side = e.side;
-            decoder::variables(words, part, pair_side)
-        }
-    }
+    let Picked::Known(e) = clause::pick(hard, side) else {
+        return 0;
+    };
+    let part = e.hard;
+    let pair_side = e.side;
+    decoder::variables(words, part, pair_side)
 }
 
 // A list of these characters for the table of these words: 10, then 9. Both are stored when nothing is left to judge.
@@ -132,8 +130,8 @@ pub fn read_list(text: &[u8], table: &mut [u32], list: &mut [u8]) -> ReadList
     let line = first_fault(text);
     let at = list_scan::line_start(text, line);
     let mut words = [0u32; 4930];
-    match sheet_in::read_sheet(&text[..at], &mut words) {
-        ReadSheet::Refused(_) => ReadList::Refused(Refusal::Line(line)),
-        ReadSheet::Read(hard, side, n) => below(text, at, hard, side, &words[..n], table, list),
-    }
+    let ReadSheet::Read(hard, side, n) = sheet_in::read_sheet(&text[..at], &mut words) else {
+        return ReadList::Refused(Refusal::Line(line));
+    };
+    below(text, at, hard, side, &words[..n], table, list)
 }

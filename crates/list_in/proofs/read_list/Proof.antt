@@ -32,11 +32,23 @@ slice-aggregate-read-sheet-2 c = search needs
 read-sheet-requires : tie.Need-read-sheet-requires
 read-sheet-requires c κs = search needs
 
+enum-known-hard : tie.Need-enum-known-hard
+enum-known-hard c = search needs
+
 enum-told : tie.Need-enum-told
 enum-told c = search needs
 
-enum-known-hard : tie.Need-enum-known-hard
-enum-known-hard c = search needs
+returns : tie.Need-returns
+returns c =
+    let r = c .before .before .before in
+    let i = r .before .before .before in
+    let a = i .before .before .before .before .before .args in
+    let s = a .text .now in
+    let at = i .line-start .result in
+    let l = firstFault (parsed s) in
+    let z : at ≡ lineStart l s = i .line-start .ensures ∙ ap (λ (k : ℕ). lineStart k s) (i .before .first-fault .ensures) in
+    at-line (splitAt l s) (a .table .now) (a .list .now)
+    (top-bad s l at z (refuses (take at s) (sym (c .enum-told .given .1) ∙ r .read-sheet .ensures .0) .is)) (i .before .first-fault .ensures)
 
 array-share-prefix-words : tie.Need-array-share-prefix-words
 array-share-prefix-words c =
@@ -62,18 +74,6 @@ below-requires c κs =
     let at = i .line-start .result in
     let R = reads (take at s) _ refl (sym (c .before .before .before .before .hard .given .1) ∙ r .read-sheet .ensures .0) (r .read-sheet .ensures .1) in
     (R .table, omega (arith, i .line-start .ensures, start-most (i .before .first-fault .result) s), omega (arith, R .count, R .most))
-
-returns : tie.Need-returns
-returns c =
-    let r = c .before .before .before in
-    let i = r .before .before .before in
-    let a = i .before .before .before .before .before .args in
-    let s = a .text .now in
-    let at = i .line-start .result in
-    let l = firstFault (parsed s) in
-    let z : at ≡ lineStart l s = i .line-start .ensures ∙ ap (λ (k : ℕ). lineStart k s) (i .before .first-fault .ensures) in
-    at-line (splitAt l s) (a .table .now) (a .list .now)
-    (top-bad s l at z (refuses (take at s) (sym (c .enum-told .given .1) ∙ r .read-sheet .ensures .0) .is)) (i .before .first-fault .ensures)
 
 same-length : tie.Need-same-length
 same-length c = search needs
@@ -102,12 +102,12 @@ read-list-spec =
     slice-aggregate-read-sheet
     slice-aggregate-read-sheet-2
     read-sheet-requires
-    enum-told
     enum-known-hard
+    enum-told
+    returns
     array-share-prefix-words
     slice-aggregate-below
     below-requires
-    returns
     same-length
     same-length-2
     returns-2)
