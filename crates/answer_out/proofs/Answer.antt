@@ -9,8 +9,8 @@ use lib.Seq.{drop-cons}
 use Rattle.lists.specs.Decimal.{digits}
 use Rattle.lists.proofs.Decimal.{length-digits}
 use Rattle.refusal.specs.declared.Refusal.{Refusal}
-use Rattle.refusal.specs.declared.Refusal.the-variants.{Missing, Extra, Count, Domain, Partner, Weight, Mask, Choice, Room, Length, Entry, Broken, Line}
 use Rattle.refusal.specs.Refusals.{numberOf, placeOf}
+use Rattle.refusal.proofs.Numbers.{small-number}
 use Rattle.text_out.specs.Texts.{lineOf}
 use Rattle.text_out.proofs.Texts.{length-line}
 use Rattle.answer_out.specs.Answer.{valueKey, costKey, refusedKey, placeKey, valueLine, valueLines, costLine, answerText, refusedLine}
@@ -44,21 +44,6 @@ short-value v h = short-line valueKey 9 v (omega arith)
 
 pub short-cost : (cost : ℕ) → cost < 2 ^ 64 → length (costLine cost) ≤ 26
 short-cost cost h = short-line costKey 19 cost (omega arith)
-
-small-number : (f : Refusal) → numberOf f < 100
-small-number (Missing at) = omega arith
-small-number (Extra at) = omega arith
-small-number (Count at) = omega arith
-small-number (Domain at) = omega arith
-small-number (Partner at) = omega arith
-small-number (Weight at) = omega arith
-small-number (Mask at) = omega arith
-small-number Choice = omega arith
-small-number (Room needed) = omega arith
-small-number (Length wanted) = omega arith
-small-number (Entry at) = omega arith
-small-number (Broken box) = omega arith
-small-number (Line line) = omega arith
 
 pub short-refused : (f : Refusal) → placeOf f < 2 ^ 64 → length (refusedLine f) ≤ 38
 short-refused f h =
