@@ -43,7 +43,7 @@ def check(root):
     crates = {line.split(':')[0] for line in Path(root, 'crates.txt').read_text().splitlines() if re.match(r'\w+:', line)}
     programs = {c for c in crates if Path(root, 'crates', c, 'src/main.rt').exists()}  # nothing calls into a program
     functions = {(c, f) for c in crates - programs for file in Path(root, 'crates', c, 'src').glob('**/*.rt')
-                 for f in re.findall(r'^pub fn (\w+)', file.read_text(), re.M)}
+                 for f in re.findall(r'^pub (?:extern "C" )?fn (\w+)', file.read_text(), re.M)}
     edits = {(c, file.stem) for c in crates for file in Path(root, 'crates', c, 'must-fail').glob('*.edit')}
     mains = {(c, 'main') for c in programs}
     decided, faults = theorems(root)

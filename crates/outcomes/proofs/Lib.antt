@@ -5,4 +5,5 @@ pub mod Encodings
 pub mod Solutions
 pub mod Texts
 pub mod Sheets
+pub mod Exports
 pub mod Undecided

@@ -1,11 +1,12 @@
 -- A whole sheet: its two choices and its words, or the number, from 1, of its first faulty line. What reading it answers and leaves.
 use Prim.Native.Nat.{ℕ, _+_}
 use mathlib.Core.Bool.{Bool, true, false, cond}
-use mathlib.Core.List.{List, _∷_, _++_}
+use mathlib.Core.List.{List, [], _∷_, _++_}
 use lib.ListN.{length}
 use lib.Dec.{leb}
 use Rattle.refusal.specs.declared.Refusal.the-variants.{Room}
 use Rattle.refusal.specs.declared.Refusal.{Refusal}
+use Rattle.refusal.specs.Refusals.{Says, gives, refusalSays}
 use Rattle.scan.specs.declared.Line.{Line}
 use Rattle.scan.specs.declared.Line.the-variants.{Found, Fault}
 use Rattle.scan.specs.Lines.{lineAt}
@@ -58,3 +59,8 @@ readOf (sheet h d ws) long = fits (leb (length ws) long) h d (length ws)
 abbrev pub tableLeft : Parsed → List ℕ → List ℕ
 tableLeft (faulty l) old = old
 tableLeft (sheet h d ws) old = filled old ws
+
+-- success gives the two choices and the number of words
+abbrev pub readSays : ReadSheet → Says
+readSays (ReadSheet.Refused f) = refusalSays f
+readSays (ReadSheet.Read hard side n) = gives (hard ∷ side ∷ n ∷ [])

@@ -1,11 +1,12 @@
 -- What writing a sheet answers and leaves: 8 for the choices, the table's 1 to 7, 9 where the text is too short; else the sheet.
 use Prim.Native.Nat.{ℕ}
 use mathlib.Core.Bool.{Bool, true, false}
-use mathlib.Core.List.{List}
+use mathlib.Core.List.{List, [], _∷_}
 use lib.ListN.{length}
 use lib.Dec.{leb}
 use Rattle.refusal.specs.declared.Refusal.{Refusal}
 use Rattle.refusal.specs.declared.Refusal.the-variants.{Room}
+use Rattle.refusal.specs.Refusals.{Says, gives, refusalSays}
 use Rattle.table.specs.Table.{Table}
 use Rattle.table.specs.Words.{Outcome, judged}
 use Rattle.clause.specs.declared.Picked.{Picked}
@@ -44,3 +45,8 @@ writtenOf (text s) long = fits (leb (length s) long) (length s)
 abbrev pub textLeft : Sheet → List ℕ → List ℕ
 textLeft (none f) old = old
 textLeft (text s) old = filled old s
+
+-- success gives the length written
+abbrev pub writtenSays : Written → Says
+writtenSays (Written.Refused f) = refusalSays f
+writtenSays (Written.Text n) = gives (n ∷ [])
