@@ -6,4 +6,5 @@ pub mod Solutions
 pub mod Texts
 pub mod Sheets
 pub mod Exports
+pub mod Walks
 pub mod Undecided
