@@ -1,0 +1,70 @@
+-- The buffers stay as long as they are when they are filled, and when they are lent.
+use mathlib.Core.Path.{_∙_}
+use borrow.Author.Needs.{needs}
+use Rattle.calls.proofs.show_call.Statement.{statement}
+use Rattle.calls.proofs.show_call.Tie as tie
+
+fill-requires : tie.Need-fill-requires
+fill-requires c κs = search needs
+
+call-on-given-requires : tie.Need-call-on-given-requires
+call-on-given-requires c κs = search needs
+
+say-requires : tie.Need-say-requires
+say-requires c κs = search needs
+
+say-requires-2 : tie.Need-say-requires-2
+say-requires-2 c κs = search needs
+
+same-length : tie.Need-same-length
+same-length c =
+    let called = c .before .before .before .before .before .before .before .before .before .before .before .before .before .before .before .before .before .before .before .before .before .before .before in
+    called .call-on-given .kept .1 .1 .1 .1 .0 ∙ called .before .before .before .before .before .before .before .before .before .before .before .before .before .before .before .before .fill .kept .1 .0
+
+same-length-2 : tie.Need-same-length-2
+same-length-2 c =
+    let called = c .before .before .before .before .before .before .before .before .before .before .before .before .before .before .before .before .before .before .before .before .before .before .before in
+    called .call-on-given .kept .1 .1 .1 .1 .1 .0 ∙ called .before .before .before .before .before .before .before .before .before .before .before .before .before .before .before .before .fill .kept .1 .1 .0
+
+same-length-3 : tie.Need-same-length-3
+same-length-3 c =
+    let called = c .before .before .before .before .before .before .before .before .before .before .before .before .before .before .before .before .before .before .before .before .before .before .before in
+    called .call-on-given .kept .1 .1 .1 .1 .1 .1 .0 ∙ called .before .before .before .before .before .before .before .before .before .before .before .before .before .before .before .before .fill .kept .1 .1 .1 .0
+
+same-length-4 : tie.Need-same-length-4
+same-length-4 c =
+    let called = c .before .before .before .before .before .before .before .before .before .before .before .before .before .before .before .before .before .before .before .before .before .before .before in
+    called .call-on-given .kept .1 .1 .1 .1 .1 .1 .1 .0 ∙ called .before .before .before .before .before .before .before .before .before .before .before .before .before .before .before .before .fill .kept .1 .1 .1 .1 .0
+
+same-length-5 : tie.Need-same-length-5
+same-length-5 c =
+    let called = c .before .before .before .before .before .before .before .before .before .before .before .before .before .before .before .before .before .before .before .before .before .before .before in
+    called .call-on-given .kept .1 .1 .1 .1 .1 .1 .1 .1 .0 ∙ called .before .before .before .before .before .before .before .before .before .before .before .before .before .before .before .before .fill .kept .1 .1 .1 .1 .1 .0
+
+same-length-6 : tie.Need-same-length-6
+same-length-6 c =
+    let called = c .before .before .before .before .before .before .before .before .before .before .before .before .before .before .before .before .before .before .before .before .before .before .before in
+    called .call-on-given .kept .1 .1 .1 .1 .1 .1 .1 .1 .1 .0 ∙ called .before .before .before .before .before .before .before .before .before .before .before .before .before .before .before .before .fill .kept .1 .1 .1 .1 .1 .1 .0
+
+same-length-7 : tie.Need-same-length-7
+same-length-7 c = search needs
+
+returns : tie.Need-returns
+returns c = search needs
+
+pub show-call-spec : {M : Type 1} → statement M
+show-call-spec =
+    tie.close
+    (tie.spec
+    fill-requires
+    call-on-given-requires
+    say-requires
+    say-requires-2
+    same-length
+    same-length-2
+    same-length-3
+    same-length-4
+    same-length-5
+    same-length-6
+    same-length-7
+    returns)

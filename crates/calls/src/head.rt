@@ -1,0 +1,43 @@
+// The head of a case: 13 numbers. Which entry point, the hard part, the side, what the buffers are filled with; how many words, entries of the
+// plan and bytes are given; how long the lent buffers are.
+pub const ENTRY: usize = 0;
+
+pub const HARD: usize = 1;
+
+pub const SIDE: usize = 2;
+
+pub const SEED: usize = 3;
+
+pub const WORDS: usize = 4;
+
+pub const PLAN: usize = 5;
+
+pub const BYTES: usize = 6;
+
+pub const FIRST: usize = 7;
+
+pub const SECOND: usize = 8;
+
+pub const LITERALS: usize = 9;
+
+pub const WEIGHTS: usize = 10;
+
+pub const TABLE: usize = 11;
+
+pub const TEXT: usize = 12;
+
+pub fn number(head: &[u32], i: usize) -> u32 {
+    if i < head.len() {
+        return head[i];
+    }
+    0
+}
+
+pub fn length(head: &[u32], i: usize) -> usize {
+    lists::wide(number(head, i))
+}
+
+// What is filled and shown of a lent buffer: eight entries past it too, which no entry point may touch.
+pub fn shown(head: &[u32], i: usize) -> usize {
+    number(head, i) as usize + 8
+}
