@@ -7,7 +7,7 @@ ghost use Prim.Native.Nat.{_<_};
 fn pattern(seed: u32, i: usize) -> u32
     ensures { λ r. ⌜ r < 2000000011 ⌝ }
 {
-    ((seed as u64 + (i % 1048576) as u64 * 40503) % 2000000011) as u32
+    ((seed as u64 + (i % 4194304) as u64 * 40503) % 2000000011) as u32
 }
 
 fn fill_byte(out: &mut [u8], i: usize, seed: u32) {

@@ -134,7 +134,7 @@ fn input_with_list(random: &mut Random, kind: usize) -> Vec<u8> {
 }
 
 /// The kind of case number `index`: every kind comes once before any comes again.
-fn case(seed: u64, program: Program, index: usize) -> Case {
+pub fn input(seed: u64, program: Program, index: usize) -> (&'static str, Vec<u8>) {
     let mut random = Random::of(seed, 2 * index as u64 + (program == Program::Decode) as u64);
     let random = &mut random;
     let lists = if program == Program::Decode { LISTS.len() } else { 0 };
@@ -145,7 +145,7 @@ fn case(seed: u64, program: Program, index: usize) -> Case {
         number = number.wrapping_sub(count);
         found
     };
-    let (kind, input) = if let Some(at) = below(SIZED.len()) {
+    if let Some(at) = below(SIZED.len()) {
         let made = sheet(random, &SIZED[at].1);
         (SIZED[at].0, input_of(random, program, &made))
     } else if let Some(at) = below(EXTREMES.len()) {
@@ -164,7 +164,11 @@ fn case(seed: u64, program: Program, index: usize) -> Case {
         (DAMAGES[at].0, DAMAGES[at].1(random, whole))
     } else {
         (LISTS[number], input_with_list(random, number))
-    };
+    }
+}
+
+fn case(seed: u64, program: Program, index: usize) -> Case {
+    let (kind, input) = input(seed, program, index);
     let expected = match program {
         Program::Encode => programs::encode(&input),
         Program::Decode => programs::decode(&input),

@@ -15,7 +15,7 @@ struct Kind {
 
 /// Runs a command, whose words are split at spaces, on an input that arrives in pieces of `piece` bytes: a program may
 /// not take the first bytes that it can read for all of them.
-fn run(command: &str, input: &[u8], piece: usize) -> Result<Vec<u8>, String> {
+pub fn run(command: &str, input: &[u8], piece: usize) -> Result<Vec<u8>, String> {
     let mut words = command.split_whitespace();
     let program = words.next().ok_or("no command")?;
     let started = Command::new(program).args(words).stdin(Stdio::piped()).stdout(Stdio::piped()).spawn();

@@ -1,6 +1,9 @@
 //! A second implementation, from the scope document alone, and what it is compared with. Usage: see `USAGE`.
 
 mod brute;
+mod call_cases;
+mod call_compare;
+mod calls;
 mod cases;
 mod clauses;
 mod compare;
@@ -27,6 +30,9 @@ second stored                                the stored outputs of the proved pr
 second encode | second decode                the two programs, from standard input to standard output
 second gen SEED COUNT [FOLDER]               the cases for each program: a line each, or the files in FOLDER
 second compare ENCODE DECODE SEED [COUNT]    runs two commands on these cases
+second calls COMMAND SEED [COUNT]            runs a command on COUNT calls of each entry point, as the program calls has them
+second few SEED                              a few small calls of each entry point: crates/calls/stdin has those of seed 1
+second answer [flipped]                      that program, from standard input to standard output; or with one byte flipped
 ";
 
 /// The cases of a seed, with what the programs should print.
@@ -83,6 +89,12 @@ fn main() {
         (Some("compare"), 4..=5) => {
             compare::compare(&words[1], &words[2], number(&words, 3, 0), number(&words, 4, 300) as usize)
         }
+        (Some("calls"), 3..=4) => {
+            call_compare::compare(&words[1], number(&words, 2, 0), number(&words, 3, 100) as usize)
+        }
+        (Some("few"), 2) => done(std::io::stdout().write_all(&call_compare::few(number(&words, 1, 0)))),
+        (Some("answer"), 1) => done(through(|input| call_compare::answer(input, false))),
+        (Some("answer"), 2) => done(through(|input| call_compare::answer(input, true))),
         _ => {
             eprint!("{USAGE}");
             2

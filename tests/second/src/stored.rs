@@ -2,6 +2,8 @@
 //! data; the results are this project's own.
 
 use crate::brute::every_list;
+use crate::call_compare::answer;
+use crate::calls::Call;
 use crate::clauses::all_clauses;
 use crate::encode::{lengths_of, measure};
 use crate::examples::{encoded, every_choice, After, EXAMPLE};
@@ -77,6 +79,16 @@ pub fn all(tally: &mut Tally) {
         part(&mut stored, tally);
         stored.close(tally);
     }
+    stored_calls(tally);
+}
+
+/// The stored run of the entry points: what the program is given there, answered here.
+fn stored_calls(tally: &mut Tally) {
+    let read = |name: &str| std::fs::read(format!("crates/calls/{name}")).unwrap_or_default();
+    let (input, output) = (read("stdin"), read("stdout"));
+    let cases = std::iter::successors(Call::read(&input), |(_, rest)| Call::read(rest)).count();
+    tally.equal("crates/calls/stdout", !input.is_empty() && answer(&input, false) == output, true);
+    println!("calls: {cases} stored calls");
 }
 
 fn said<T>(answer: Result<T, Refusal>, show: impl Fn(T) -> String) -> String {
