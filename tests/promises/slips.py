@@ -1,9 +1,4 @@
 """Shows that the check can fail: a tiny repository of a library and a program passes, and of each slip in it, that slip is found and nothing else."""
-import tempfile
-from pathlib import Path
-
-from held import check
-
 GOOD = {
     'crates.txt': '# a comment: none\nhalf:\nshow: half\noutcomes: half\n',
     'crates/half/src/lib.rt': 'pub fn half_of(x: u32) -> u32 {\n    x / 2\n}\n\npub fn print(x: u32) {\n}\n\nfn own(x: u32) {\n}\n',
@@ -39,21 +34,3 @@ SLIPS = [  # a file, what stands there, what stands there instead, and what is f
     (PROMISES, ', `whole`', ', `whole`, `other`', [f'{PROMISES} names edit other of half, which is not there']),
     (PROMISES, ', `whole`', ', `whole`, `show/other`', [f'{PROMISES} names edit other of show, which is not there']),
 ]
-
-
-def found(files):
-    with tempfile.TemporaryDirectory() as root:
-        for name, text in files.items():
-            Path(root, name).parent.mkdir(parents=True, exist_ok=True)
-            Path(root, name).write_text(text)
-        return check(root)[1]
-
-
-def try_slips():
-    """How many slips are found as they have to be, and a line for each other one."""
-    tried, faults = [(LIBRARY, 'half', 'half', [])] + SLIPS, []
-    for file, here, instead, wanted in tried:
-        got = found(GOOD | {file: GOOD[file].replace(here, instead)})
-        if here not in GOOD[file] or got != wanted:
-            faults.append(f'the check, where {file} has {instead!r} for {here!r}: wanted {wanted}, found {got}')
-    return len(tried) - len(faults), faults
