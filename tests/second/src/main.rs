@@ -3,6 +3,7 @@
 mod brute;
 mod call_cases;
 mod call_compare;
+mod call_damage;
 mod calls;
 mod cases;
 mod clauses;
@@ -19,6 +20,7 @@ mod refusal;
 mod sheet;
 mod source;
 mod stored;
+mod stored_paper;
 mod table;
 mod tally;
 
