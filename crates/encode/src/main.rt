@@ -119,26 +119,16 @@ fn print_pairs(
     let p = counts.pairs;
     let n = lists::word(words, 0);
     let mut switch = numbers::switch_base(words, n, part);
-    let mut cursor = from;
+    let mut end = from;
     let mut at = counts.boxes + 2;
     let mut k = 0;
     while k < p {
         switch += 1;
-        cursor = print_pair(
-            words,
-            side,
-            switch,
-            at,
-            first,
-            second,
-            clauses,
-            text,
-            cursor,
-        );
+        end = print_pair(words, side, switch, at, first, second, clauses, text, end);
         at = measure::next_pair(words, at);
         k += 1;
     }
-    cursor
+    end
 }
 
 // The header, the boxes and the pairs of a checked table.

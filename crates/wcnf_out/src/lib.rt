@@ -77,35 +77,23 @@ fn put_pairs(
         ⌜ Wrote (now (text .entry)) from
         (bodyText (top (tableOf (now (words .entry)))) (softPart part side (tableOf (now (words .entry)))))
         r (now (text .exit))
-        × (now (first .exit)
-        ≡ scratchThrough side one (tableOf (now (words .entry))) (tableOf (now (words .entry)) .pairs) (now (first .entry)))
-        × (now (second .exit)
-        ≡ scratchThrough side two (tableOf (now (words .entry))) (tableOf (now (words .entry)) .pairs) (now (second .entry)))
+        × (now (first .exit) ≡ scratchThrough side one (tableOf (now (words .entry))) (tableOf (now (words .entry)) .pairs) (now (first .entry)))
+        × (now (second .exit) ≡ scratchThrough side two (tableOf (now (words .entry))) (tableOf (now (words .entry)) .pairs) (now (second .entry)))
         × (r ≤ from + 16777216) ⌝ }
 {
     let p = counts.pairs;
     let n = lists::word(words, 0);
     let mut switch = numbers::switch_base(words, n, part);
-    let mut cursor = from;
+    let mut end = from;
     let mut at = counts.boxes + 2;
     let mut k = 0;
     while k < p {
         switch += 1;
-        cursor = wcnf_parts::put_pair(
-            words,
-            side,
-            switch,
-            at,
-            first,
-            second,
-            clauses,
-            text,
-            cursor,
-        );
+        end = wcnf_parts::put_pair(words, side, switch, at, first, second, clauses, text, end);
         at = measure::next_pair(words, at);
         k += 1;
     }
-    cursor
+    end
 }
 
 // The whole text.

@@ -13,7 +13,7 @@ use Rattle.encode.proofs.print_pairs.Statement.{statement}
 use Rattle.encode.proofs.print_pairs.Tie as tie
 
 abbrev Inv-loop : tie.InvT-loop
-Inv-loop words side first₀ second₀ clauses₀ text₀ from p n switch₀ cursor₀ at₀ k₀ first second clauses text switch cursor at k =
+Inv-loop words side first₀ second₀ clauses₀ text₀ from p n switch₀ end₀ at₀ k₀ first second clauses text switch end at k =
     (k ≤ p)
     × (p ≤ 256)
     × Ahead words (p - k) at
@@ -22,10 +22,10 @@ Inv-loop words side first₀ second₀ clauses₀ text₀ from p n switch₀ cur
     × (length second ≡ length second₀)
     × (length clauses ≡ length clauses₀)
     × (length text ≡ length text₀)
-    × (cursor ≤ 65536)
+    × (end ≤ 65536)
 
 abbrev μ-loop : tie.MeasureT-loop
-μ-loop words side first₀ second₀ clauses₀ text₀ from p n switch₀ cursor₀ at₀ k₀ first second clauses text switch cursor at k = p - k
+μ-loop words side first₀ second₀ clauses₀ text₀ from p n switch₀ end₀ at₀ k₀ first second clauses text switch end at k = p - k
 
 word-requires : tie.Need-word-requires Inv-loop μ-loop
 word-requires c κs = accepted-parts _ (c .before .before .pre .0 .table) .boxes .inside

@@ -20,21 +20,21 @@ use Rattle.wcnf_out.proofs.put_pairs.Statement.{statement}
 use Rattle.wcnf_out.proofs.put_pairs.Tie as tie
 
 abbrev Inv-loop : tie.InvT-loop
-Inv-loop words side first₀ second₀ clauses₀ text₀ from p n switch₀ cursor₀ at₀ k₀ first second clauses text switch cursor at k =
+Inv-loop words side first₀ second₀ clauses₀ text₀ from p n switch₀ end₀ at₀ k₀ first second clauses text switch end at k =
     (k ≤ p)
     × (p ≤ 256)
     × Ahead words (p - k) at
     × (switch ≡ switch₀ + k)
-    × Shows side words p text₀ from switch₀ text cursor at k
+    × Shows side words p text₀ from switch₀ text end at k
     × (asked side one words (p - k) at ≤ length first)
     × (asked side two words (p - k) at ≤ length second)
     × Leaves side one words (p - k) at first₀ first
     × Leaves side two words (p - k) at second₀ second
     × (length clauses ≡ length clauses₀)
-    × (cursor ≤ from + 65536 * k)
+    × (end ≤ from + 65536 * k)
 
 abbrev μ-loop : tie.MeasureT-loop
-μ-loop words side first₀ second₀ clauses₀ text₀ from p n switch₀ cursor₀ at₀ k₀ first second clauses text switch cursor at k = p - k
+μ-loop words side first₀ second₀ clauses₀ text₀ from p n switch₀ end₀ at₀ k₀ first second clauses text switch end at k = p - k
 
 word-requires : tie.Need-word-requires Inv-loop μ-loop
 word-requires c κs = accepted-parts _ (c .before .before .pre .0 .table) .boxes .inside
