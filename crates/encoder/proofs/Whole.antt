@@ -70,7 +70,8 @@ module _ (h : Hard) (s : Side) (t : Table) where
       → r + length (weights (softPart Standard s t)) < 2 ^ 64
   weigh-soft-room l w = let z : ℕ = 0 in omega (arith, weights-long, w .next, length-replicate (length (hardPart h t)) z)
 
-  pub whole-weighed : {old mid new : List ℕ} {r q : ℕ} → Wrote old 0 (replicate (length (hardPart h t)) 0) r mid → Wrote mid r (weights (softPart Standard s t)) q new
+  pub whole-weighed : {old mid new : List ℕ} {r q : ℕ} → Wrote old 0 (replicate (length (hardPart h t)) 0) r mid
+      → Wrote mid r (weights (softPart Standard s t)) q new
       → Wrote old 0 (weights (clauses h s t)) q new
   whole-weighed a b = rw weights-are (wrote-append a b)
 
@@ -94,7 +95,8 @@ left-through Literals w t ps old = zeros-long (scratchThrough Literals w t ps ol
 left-through Score w t ps old = zeros-long (scratchThrough Score w t ps old) old (through-long Score w t ps old)
 
 -- what the pairs put in and tidying takes out again
-pub left : (s : Side) (w : Which) (t : Table) (old mid : List ℤ) {new : List ℤ} → mid ≡ scratchThrough s w t (t .pairs) old → new ≡ scratchLeft s mid → new ≡ scratchLeft s old
+pub left : (s : Side) (w : Which) (t : Table) (old mid : List ℤ) {new : List ℤ} → mid ≡ scratchThrough s w t (t .pairs) old
+    → new ≡ scratchLeft s mid → new ≡ scratchLeft s old
 left s w t old mid e f = f ∙ ap (scratchLeft s) e ∙ left-through s w t (t .pairs) old
 
 -- ---- the judgement of the room
@@ -114,9 +116,11 @@ room-as-judged first second literals weights e f g = rw (e, f) at g
 
 -- ---- the outcome
 
-pub all-written : (e : Encoding) (t : Table) (first second first₁ second₁ : List ℤ) {literals literals₁ first₂ second₂ : List ℤ} {heavy heavy₁ : List ℕ} {r q : ℕ}
+pub all-written : (e : Encoding) (t : Table) (first second first₁ second₁ : List ℤ) {literals literals₁ first₂ second₂ : List ℤ}
+    {heavy heavy₁ : List ℕ} {r q : ℕ}
     → Wrote literals 0 (entries (clauses (e .hard) (e .side) t)) r literals₁ → Wrote heavy 0 (weights (clauses (e .hard) (e .side) t)) q heavy₁
-    → first₁ ≡ scratchThrough (e .side) one t (t .pairs) first → second₁ ≡ scratchThrough (e .side) two t (t .pairs) second → first₂ ≡ scratchLeft (e .side) first₁ → second₂ ≡ scratchLeft (e .side) second₁
+    → first₁ ≡ scratchThrough (e .side) one t (t .pairs) first → second₁ ≡ scratchThrough (e .side) two t (t .pairs) second
+    → first₂ ≡ scratchLeft (e .side) first₁ → second₂ ≡ scratchLeft (e .side) second₁
     → Outcomes (yes e t) first second literals heavy (Encoded.Written (record { literals = r; weights = q })) first₂ second₂ literals₁ heavy₁
 unfolding entryCount
 all-written e t first second first₁ second₁ {r = r} {q = q} a b k l u v =

@@ -91,7 +91,8 @@ scratchAfter (no f) old = old
 scratchAfter (yes e t) old = scratchLeft (e .side) old
 
 -- the answer and each lent buffer at exit, by the verdict and what they were
-pub record Outcomes (v : Verdict) (first second literals : List ℤ) (weights : List ℕ) (r : Encoded) (first' second' literals' : List ℤ) (weights' : List ℕ) : Type 0 where
+pub record Outcomes (v : Verdict) (first second literals : List ℤ) (weights : List ℕ) (r : Encoded)
+    (first' second' literals' : List ℤ) (weights' : List ℕ) : Type 0 where
   pub answer : r ≡ encodedOf v
   pub first-left : first' ≡ scratchAfter v first
   pub second-left : second' ≡ scratchAfter v second

@@ -22,6 +22,10 @@ use Rattle.lists.specs.Lists.{Each}
 use Rattle.examples.specs.Table.{Holds, table}
 
 pub examples-hold : Each Holds table
-unfolding inMask firstOf before allowed pairNext pairsEnd pairAt pairsAt tableOf rangeFault maskFault partnersFault pairFault bodyFault firstFault judged cost literalsFrom points scoreFrom byLiterals byScore entriesOf entries weights literalsIn pickedOf end directAt directRow directClauses supports full supportAt supportClauses standardBox chainAt lowest between highest regularBox boxWith boxClauses top hardPart pairClauses softFrom softPart clauses values thresholds switches valueBase stepBase c variables softWith soft entryFault boxFault listFault decodeFault boxOk held planOf flatMap
+unfolding inMask firstOf before allowed pairNext pairsEnd pairAt pairsAt tableOf rangeFault maskFault partnersFault pairFault bodyFault firstFault
+    judged cost literalsFrom points scoreFrom byLiterals byScore entriesOf entries weights literalsIn pickedOf end directAt directRow directClauses
+    supports full supportAt supportClauses standardBox chainAt lowest between highest regularBox boxWith boxClauses top hardPart pairClauses softFrom
+    softPart clauses values thresholds switches valueBase stepBase c variables softWith soft entryFault boxFault listFault decodeFault boxOk held planOf
+    flatMap
 examples-hold =
     ((refl, refl), (refl, (refl, (refl, (refl, (refl, ((refl, refl), ((refl, refl), ((refl, refl), ((refl, refl), ((refl, refl), ((refl, refl), ((refl, refl), (refl, ((refl, refl), ((refl, refl), tt))))))))))))))))

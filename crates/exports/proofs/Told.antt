@@ -17,7 +17,8 @@ pub told-given : {s : Says} {old new : List ℕ} → s ≡ gives new → Told s 
 told-given {s} {old} {new} says = record { code = ap codeOf (sym says); slots = ap (λ (t : Says). slotsAfter t old) (sym says) }
 
 -- the buffers are left as the verdict says, and the answer that goes with them is the verdict's own
-pub as-said : {v : Verdict} {a b c a' b' c' : List ℤ} {w w' : List ℕ} {r : Encoded} → Outcomes v a b c w r a' b' c' w' → Outcomes v a b c w (encodedOf v) a' b' c' w'
+pub as-said : {v : Verdict} {a b c a' b' c' : List ℤ} {w w' : List ℕ} {r : Encoded} → Outcomes v a b c w r a' b' c' w'
+    → Outcomes v a b c w (encodedOf v) a' b' c' w'
 as-said o =
     record {
       answer = refl;
@@ -27,5 +28,6 @@ as-said o =
       weights-left = o .weights-left;
     }
 
-pub text-as-said : {v : Verdict} {a b a' b' : List ℤ} {t t' : List ℕ} {r : Written} → texts.Outcomes v a b t r a' b' t' → texts.Outcomes v a b t (texts.writtenOf v) a' b' t'
+pub text-as-said : {v : Verdict} {a b a' b' : List ℤ} {t t' : List ℕ} {r : Written} → texts.Outcomes v a b t r a' b' t'
+    → texts.Outcomes v a b t (texts.writtenOf v) a' b' t'
 text-as-said o = record { answer = refl; first-left = o .first-left; second-left = o .second-left; text-left = o .text-left }

@@ -60,7 +60,8 @@ wcnfSays v = texts.writtenSays (texts.writtenOf v)
 
 -- ---- where several buffers are lent: the answer, the slots and each buffer, by the verdict and what they held
 
-pub record Encodes (v : Verdict) (first second literals : List ℤ) (weights slots : List ℕ) (r : ℕ) (first' second' literals' : List ℤ) (weights' slots' : List ℕ) : Type 0 where
+pub record Encodes (v : Verdict) (first second literals : List ℤ) (weights slots : List ℕ) (r : ℕ)
+    (first' second' literals' : List ℤ) (weights' slots' : List ℕ) : Type 0 where
   pub told : Told (encodeSays v) r slots slots'
   pub left : Outcomes v first second literals weights (encodedOf v) first' second' literals' weights'
 

@@ -52,7 +52,8 @@ written-found l e =
     let t = charactersOf l ++ (10 ∷ []) in
     let key : begins listKey (listText l) ≡ true = begins-key l in
     let feed : drop (length l) t ≡ 10 ∷ [] = rw (← length-characters l) (drop-append-seam (charactersOf l) (10 ∷ [])) in
-    let all : leb (length t) (length l + 1) ≡ true = le-leb (length t) (length l + 1) (omega (arith, length-append (charactersOf l) (10 ∷ []), length-characters l)) in
+    let all : leb (length t) (length l + 1) ≡ true = le-leb (length t) (length l + 1)
+    (omega (arith, length-append (charactersOf l) (10 ∷ []), length-characters l)) in
     rw (key, past-key l, written-count l [] e, feed, begins-append (10 ∷ []) [], all)
 
 pub written-taken : (l : List ℕ) → Bits l → entriesOf (take (length l) (drop 5 (listText l))) ≡ l

@@ -138,7 +138,15 @@ unfolding variables
 lengths-made e t v k c l hard soft p q x y m n w z =
     let any = soft-any (e .hard) Standard (e .side) t in
     let clauses-are : c ≡ clauseCount (e .hard) (e .side) t =
-    omega (arith, m, ap (λ (u : Tally). u .clauses) x, ap (λ (u : Tally). u .clauses) y, any .0, count-clauses (e .hard) (e .side) t, bare-length Standard (e .side) t) in
+    omega (
+      arith,
+      m,
+      ap (λ (u : Tally). u .clauses) x,
+      ap (λ (u : Tally). u .clauses) y,
+      any .0,
+      count-clauses (e .hard) (e .side) t,
+      bare-length Standard (e .side) t,
+    ) in
     let literals-are : l ≡ literalCount (e .hard) (e .side) t =
     omega (arith, n, ap (λ (u : Tally). u .literals) x, ap (λ (u : Tally). u .literals) y, any .1, literals-clauses (e .hard) (e .side) t) in
     let entries-are : c + l ≡ entryCount (e .hard) (e .side) t = omega (arith, clauses-are, literals-are, entries-count (e .hard) (e .side) t) in

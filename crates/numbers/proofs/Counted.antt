@@ -94,7 +94,8 @@ module _ (ws : List ℕ) (A : Accepted ws) where
       let n = table-boxes ws A in
       let k = length-map (tableOf ws .sizes) pred in
       let all = steps-less (tableOf ws .sizes) (length (tableOf ws .sizes)) sizes-fine (omega arith) in
-      rw (← n) (rw (take-length (tableOf ws .sizes)) at (rw (ap (λ (j : ℕ). take j (map pred (tableOf ws .sizes))) (sym k) ∙ take-length (map pred (tableOf ws .sizes))) at all))
+      rw (← n) (rw (take-length (tableOf ws .sizes)) at
+      (rw (ap (λ (j : ℕ). take j (map pred (tableOf ws .sizes))) (sym k) ∙ take-length (map pred (tableOf ws .sizes))) at all))
 
   pub switches-support : switches (tableOf ws) Support ≡ pairCount ws
   unfolding switches

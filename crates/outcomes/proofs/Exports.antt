@@ -59,7 +59,8 @@ pub exports-wickcollar-write-sheet-decided : Decided exports.wickcollar_write_sh
 exports-wickcollar-write-sheet-decided = decided λ _ _ _ _ p q. (same (p .0 .code) (q .0 .code), (same (p .1) (q .1), slots (same (p .0 .slots) (q .0 .slots))))
 
 pub exports-wickcollar-read-list-decided : Decided exports.wickcollar_read_list.ended exports.wickcollar_read_list.Reads.Post
-exports-wickcollar-read-list-decided = decided λ _ _ _ _ p q. (same (p .0 .code) (q .0 .code), (same (p .1) (q .1), (same (p .2) (q .2), slots (same (p .0 .slots) (q .0 .slots)))))
+exports-wickcollar-read-list-decided = decided λ _ _ _ _ p q.
+    (same (p .0 .code) (q .0 .code), (same (p .1) (q .1), (same (p .2) (q .2), slots (same (p .0 .slots) (q .0 .slots)))))
 
 pub exports-wickcollar-write-wcnf-decided : Decided exports.wickcollar_write_wcnf.ended exports.wickcollar_write_wcnf.Reads.Post
 exports-wickcollar-write-wcnf-decided = decided λ _ _ _ _ p q. (

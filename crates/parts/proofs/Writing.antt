@@ -61,7 +61,8 @@ module _ (s : Side) (ws : List ℕ) where
       → Writes s ws p old from base out cursor at k → Writes s ws p old from base new next at' (k + 1)
   writes-turn p k at l {v = v} e n w W =
       rw n (record {
-        owed = λ h b. owes-part (W .owed h b) (soft-text h s ws p k at l) (rw (switched h s (tableOf ws) (k + 1) (v + 1) (pairAt ws at) (omega (arith, e, b))) at w);
+        owed = λ h b. owes-part (W .owed h b) (soft-text h s ws p k at l)
+            (rw (switched h s (tableOf ws) (k + 1) (v + 1) (pairAt ws at) (omega (arith, e, b))) at w);
         long = wrote-long w ∙ W .long;
       })
 

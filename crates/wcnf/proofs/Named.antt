@@ -79,7 +79,8 @@ module _ (v s : ℕ) where
       let r = stepFrom s in
       let chain = each-map-run Named (chainAt r) 3 k (λ j l. (omega arith, (omega arith, tt))) in
       let low : AllNamed (lowest x r) = ((omega arith, (omega arith, tt)), ((omega arith, (omega arith, tt)), tt)) in
-      let mid = each-flat-run Named (between x r) 2 k (λ j l. ((omega arith, (omega arith, tt)), ((omega arith, (omega arith, tt)), ((omega arith, (omega arith, (omega arith, tt))), tt)))) in
+      let mid = each-flat-run Named (between x r) 2 k
+      (λ j l. ((omega arith, (omega arith, tt)), ((omega arith, (omega arith, tt)), ((omega arith, (omega arith, (omega arith, tt))), tt)))) in
       let top : AllNamed (highest x r (suc (suc k))) = ((omega arith, (omega arith, tt)), ((omega arith, (omega arith, tt)), tt)) in
       let links = each-append Named (flatMap (between x r) (count 2 k)) (highest x r (suc (suc k))) mid top in
       each-append Named (map (chainAt r) (count 3 k)) (lowest x r ++ (flatMap (between x r) (count 2 k) ++ highest x r (suc (suc k)))) chain
@@ -101,7 +102,8 @@ module _ (e : End) where
   unfolding directClauses directRow directAt flatMap
   direct-named =
       each-flat-run Named (directRow e) 1 (e .mine)
-      (λ i h. each-flat-run Named (directAt e i) 1 (e .theirs) (λ j l. each-cond Named (e .ok i j) (minus (valueFrom (e .own) i) ∷ minus (valueFrom (e .other) j) ∷ []) (omega arith, (omega arith, tt))))
+      (λ i h. each-flat-run Named (directAt e i) 1 (e .theirs)
+      (λ j l. each-cond Named (e .ok i j) (minus (valueFrom (e .own) i) ∷ minus (valueFrom (e .other) j) ∷ []) (omega arith, (omega arith, tt))))
 
   support-named : (tail : Clause) → Named tail → AllNamed (supportClauses e tail)
   unfolding supportClauses supportAt supports flatMap

@@ -71,7 +71,8 @@ module _ (s : Side) (ws : List ℕ) where
       → Shows s ws p old from base out cursor at k → Shows s ws p old from base new next at' (k + 1)
   shows-turn p k at S l {v = v} e n w W =
       rw n (record {
-        owed = λ h b. owes-part (W .owed h b) (pairs-turn h s ws p k at S l) (rw (switched h s (tableOf ws) (k + 1) (v + 1) (pairAt ws at) (omega (arith, e, b))) at w);
+        owed = λ h b. owes-part (W .owed h b) (pairs-turn h s ws p k at S l)
+            (rw (switched h s (tableOf ws) (k + 1) (v + 1) (pairAt ws at) (omega (arith, e, b))) at w);
         long = wrote-long w ∙ W .long;
       })
 
@@ -87,7 +88,8 @@ pub text-parts : (e : Encoding) (t : Table)
     ≡ headerText (variables t (e .hard) (e .side)) (clauseCount (e .hard) (e .side) t) (top t)
     ++ (linesOf (top t) (hardPart (e .hard) t) ++ bodyText (top t) (softPart (e .hard) (e .side) t))
 unfolding wcnfText
-text-parts e t = ap (λ (l : List ℕ). headerText (variables t (e .hard) (e .side)) (clauseCount (e .hard) (e .side) t) (top t) ++ l) (body-parts (top t) (e .hard) (e .side) t)
+text-parts e t = ap (λ (l : List ℕ). headerText (variables t (e .hard) (e .side)) (clauseCount (e .hard) (e .side) t) (top t) ++ l)
+    (body-parts (top t) (e .hard) (e .side) t)
 
 pub text-put : (e : Encoding) (t : Table) {n : Lengths} → n ≡ lengthsFor e t → {old mid late new : List ℕ} {a b r : ℕ}
     → Wrote old 0 (headerText (n .variables) (n .clauses) (n .top)) a mid → Wrote mid a (linesOf (n .top) (hardPart (e .hard) t)) b late

@@ -32,7 +32,8 @@ box-short h ws b A i = omega (arith, box-few h ws A b (accepted-box ws b A i) .e
 pub pair-short : (s : Side) (ws : List ℕ) (at v : ℕ) → Accepted ws → PairStands ws at
     → length (entriesOf (soft s (tableOf ws) (plus v ∷ []) (minus v ∷ []) (pairAt ws at))) ≤ 1024
 unfolding soft
-pair-short s ws at v A S = soft-room _ _ (pair-small ws at A S one) (pair-small ws at A S two) (plus v ∷ []) (minus v ∷ []) (omega arith) (omega arith) s .entries
+pair-short s ws at v A S = soft-room _ _ (pair-small ws at A S one) (pair-small ws at A S two) (plus v ∷ [])
+    (minus v ∷ []) (omega arith) (omega arith) s .entries
 
 module _ (cs : List Clause) (short : length (entriesOf cs) ≤ 1024) where
   pub fits : 0 + length (entriesOf cs) < 2 ^ 64

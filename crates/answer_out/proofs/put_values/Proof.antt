@@ -53,8 +53,10 @@ same-length c = c .before .loop .inv .2 .long
 
 returns : tie.Need-returns Inv-loop μ-loop
 returns c =
-    let l = c .before in
-    (owes-none (l .loop .inv .2) (values-end (l .before .before .before .args .plan .now) (l .loop .i) (omega arith)), omega (arith, l .loop .inv .0, l .loop .inv .1))
+    let l = c .before in (
+      owes-none (l .loop .inv .2) (values-end (l .before .before .before .args .plan .now) (l .loop .i) (omega arith)),
+      omega (arith, l .loop .inv .0, l .loop .inv .1),
+    )
 
 pub put-values-spec : {M : Type 1} → statement M
 put-values-spec =

@@ -29,22 +29,41 @@ enum-known-hard c = search needs
 array-share-prefix-table : tie.Need-array-share-prefix-table
 array-share-prefix-table c =
     let r = c .before .before .before .before .before in
-    omega (arith, read-most (over (r .before .before .before .before .args .text .now)) 4930 2240 (sym (r .read-list .ensures .answer) ∙ c .before .hard .given .1) .0, r .read-list .kept .1 .0)
+    omega (
+      arith,
+      read-most (over (r .before .before .before .before .args .text .now)) 4930 2240 (sym (r .read-list .ensures .answer) ∙ c .before .hard .given .1) .0,
+      r .read-list .kept .1 .0,
+    )
 
 slice-aggregate-print-words : tie.Need-slice-aggregate-print-words
 slice-aggregate-print-words c =
     let r = c .before .before .before .before .before .before in
-    sym (length-take-le _ _ (omega (arith, read-most (over (r .before .before .before .before .args .text .now)) 4930 2240 (sym (r .read-list .ensures .answer) ∙ c .before .before .hard .given .1) .0, r .read-list .kept .1 .0)))
+    sym (length-take-le _ _ (omega (
+      arith,
+      read-most (over (r .before .before .before .before .args .text .now)) 4930 2240
+          (sym (r .read-list .ensures .answer) ∙ c .before .before .hard .given .1) .0,
+      r .read-list .kept .1 .0,
+    )))
 
 array-share-prefix-list : tie.Need-array-share-prefix-list
 array-share-prefix-list c =
     let r = c .before .before .before .before .before .before in
-    omega (arith, read-most (over (r .before .before .before .before .args .text .now)) 4930 2240 (sym (r .read-list .ensures .answer) ∙ c .before .before .hard .given .1) .1, r .read-list .kept .1 .1 .0)
+    omega (
+      arith,
+      read-most (over (r .before .before .before .before .args .text .now)) 4930 2240
+          (sym (r .read-list .ensures .answer) ∙ c .before .before .hard .given .1) .1,
+      r .read-list .kept .1 .1 .0,
+    )
 
 slice-aggregate-print-words-2 : tie.Need-slice-aggregate-print-words-2
 slice-aggregate-print-words-2 c =
     let r = c .before .before .before .before .before .before .before in
-    sym (length-take-le _ _ (omega (arith, read-most (over (r .before .before .before .before .args .text .now)) 4930 2240 (sym (r .read-list .ensures .answer) ∙ c .before .before .before .hard .given .1) .1, r .read-list .kept .1 .1 .0)))
+    sym (length-take-le _ _ (omega (
+      arith,
+      read-most (over (r .before .before .before .before .args .text .now)) 4930 2240
+          (sym (r .read-list .ensures .answer) ∙ c .before .before .before .hard .given .1) .1,
+      r .read-list .kept .1 .1 .0,
+    )))
 
 print-words-requires : tie.Need-print-words-requires
 print-words-requires c κs = search needs

@@ -30,12 +30,14 @@ array-share-prefix-plan c = search needs
 slice-aggregate-print-plan : tie.Need-slice-aggregate-print-plan
 slice-aggregate-print-plan c =
     let s = c .before .before .before .before .before .before .before .before .before in
-    sym (length-take-le (s .args .n) (c .before .before .before .before .before .decode .last .1 .1 .1 .1 .0) (omega (arith, s .pre, c .before .before .before .before .before .decode .kept .1 .1 .1 .1 .0)))
+    sym (length-take-le (s .args .n) (c .before .before .before .before .before .decode .last .1 .1 .1 .1 .0)
+    (omega (arith, s .pre, c .before .before .before .before .before .decode .kept .1 .1 .1 .1 .0)))
 
 print-plan-requires : tie.Need-print-plan-requires
 print-plan-requires c κs =
     let s = c .before .before .before .before .before .before .before .before .before in
-    rw (length-take-le (s .args .n) (c .before .before .before .before .before .decode .last .1 .1 .1 .1 .0) (omega (arith, s .pre, c .before .before .before .before .before .decode .kept .1 .1 .1 .1 .0))) (s .pre)
+    rw (length-take-le (s .args .n) (c .before .before .before .before .before .decode .last .1 .1 .1 .1 .0)
+    (omega (arith, s .pre, c .before .before .before .before .before .decode .kept .1 .1 .1 .1 .0))) (s .pre)
 
 returns-2 : tie.Need-returns-2
 returns-2 c = search needs

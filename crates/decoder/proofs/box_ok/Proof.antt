@@ -28,8 +28,10 @@ counted-ok-requires c κs =
     let A = s .pre .0 in
     let box = accepted-box ws (s .args .b) A (s .pre .2) in
     let base = base-small ws A (s .args .b) (box .number .0, omega (arith, box .number .1)) in
-    let step = step-small ws A (s .args .b) (box .number .0, omega (arith, box .number .1)) in
-    (omega (arith, v .value-base .ensures, c .size .ensures, box .values .1, base), omega (arith, t .step-base .ensures, c .size .ensures, box .values .1, step))
+    let step = step-small ws A (s .args .b) (box .number .0, omega (arith, box .number .1)) in (
+      omega (arith, v .value-base .ensures, c .size .ensures, box .values .1, base),
+      omega (arith, t .step-base .ensures, c .size .ensures, box .values .1, step),
+    )
 
 returns : tie.Need-returns
 returns c =

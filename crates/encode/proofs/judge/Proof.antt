@@ -26,12 +26,20 @@ enum-known-hard c = search needs
 array-share-prefix-table : tie.Need-array-share-prefix-table
 array-share-prefix-table c =
     let r = c .before .before .before .before in
-    omega (arith, read-most (parsed (r .before .before .before .args .sheet .now)) 4930 (sym (r .read-sheet .ensures .0) ∙ c .before .hard .given .1), r .read-sheet .kept .1 .0)
+    omega (
+      arith,
+      read-most (parsed (r .before .before .before .args .sheet .now)) 4930 (sym (r .read-sheet .ensures .0) ∙ c .before .hard .given .1),
+      r .read-sheet .kept .1 .0,
+    )
 
 slice-aggregate-print-words : tie.Need-slice-aggregate-print-words
 slice-aggregate-print-words c =
     let r = c .before .before .before .before .before in
-    sym (length-take-le _ _ (omega (arith, read-most (parsed (r .before .before .before .args .sheet .now)) 4930 (sym (r .read-sheet .ensures .0) ∙ c .before .before .hard .given .1), r .read-sheet .kept .1 .0)))
+    sym (length-take-le _ _ (omega (
+      arith,
+      read-most (parsed (r .before .before .before .args .sheet .now)) 4930 (sym (r .read-sheet .ensures .0) ∙ c .before .before .hard .given .1),
+      r .read-sheet .kept .1 .0,
+    )))
 
 print-words-requires : tie.Need-print-words-requires
 print-words-requires c κs = search needs

@@ -43,8 +43,13 @@ slice-aggregate-print-pairs-4 c = search needs
 
 print-pairs-requires : tie.Need-print-pairs-requires
 print-pairs-requires c κs =
-    let b = c .before .before .before .before .before .before in
-    (c .before .before .before .before .before .before .before .before .before .before .before .before .before .before .before .pre, omega arith, omega arith, omega (arith, b .print-boxes .kept .1 .1 .1 .1 .0), b .print-boxes .ensures)
+    let b = c .before .before .before .before .before .before in (
+      c .before .before .before .before .before .before .before .before .before .before .before .before .before .before .before .pre,
+      omega arith,
+      omega arith,
+      omega (arith, b .print-boxes .kept .1 .1 .1 .1 .0),
+      b .print-boxes .ensures,
+    )
 
 slice-aggregate-send : tie.Need-slice-aggregate-send
 slice-aggregate-send c = search needs

@@ -43,7 +43,9 @@ write-all-requires c κs =
     let s = c .before .before .before .before .before .before .before .before .before .before .before in
     let m = c .before .before .before .before .before .before .before .before .measure in
     let k = c .before .before .before .before .before .before .before .scratch-over in
-    let e = fit-enough (fault (s .args .e) (s .args .words .now) (s .args .first .now) (s .args .second .now) (s .args .literals .now) (s .args .weights .now)) (sym (room-as-judged _ _ _ _ (m .ensures) (k .ensures) (c .before .before .before .before .before .before .room .ensures)) ∙ c .before .before .before .before .enum-told .given .1) in
+    let short = fault (s .args .e) (s .args .words .now) (s .args .first .now) (s .args .second .now) (s .args .literals .now) (s .args .weights .now) in
+    let e = fit-enough short (sym (room-as-judged _ _ _ _ (m .ensures) (k .ensures) (c .before .before .before .before .before .before .room .ensures))
+    ∙ c .before .before .before .before .enum-told .given .1) in
     let holds = enough-holds _ _ _ _ _ _ e in
     let long = ap (λ (n : Lengths). n .entries) (m .ensures) in
     let many = ap (λ (n : Lengths). n .clauses) (m .ensures) in
@@ -54,7 +56,8 @@ returns c =
     let s = c .before .before .before .before .before .before .before .before in
     let m = c .before .before .before .before .before .measure in
     let k = c .before .before .before .before .scratch-over in
-    let e = fit-short (fault (s .args .e) (s .args .words .now) (s .args .first .now) (s .args .second .now) (s .args .literals .now) (s .args .weights .now)) (sym (room-as-judged _ _ _ _ (m .ensures) (k .ensures) (c .before .before .before .room .ensures)) ∙ c .before .f .given .1) in
+    let short = fault (s .args .e) (s .args .words .now) (s .args .first .now) (s .args .second .now) (s .args .literals .now) (s .args .weights .now) in
+    let e = fit-short short (sym (room-as-judged _ _ _ _ (m .ensures) (k .ensures) (c .before .before .before .room .ensures)) ∙ c .before .f .given .1) in
     rw e (refusal-left _ _ _ _ _)
 
 same-length : tie.Need-same-length
@@ -74,7 +77,10 @@ returns-2 c =
     let s = c .before .before .before .before .before .before .before .before .before .before .before .before .before .before .before .before .before in
     let m = c .before .before .before .before .before .before .before .before .before .before .before .before .before .before .measure in
     let k = c .before .before .before .before .before .before .before .before .before .before .before .before .before .scratch-over in
-    let e = fit-enough (fault (s .args .e) (s .args .words .now) (s .args .first .now) (s .args .second .now) (s .args .literals .now) (s .args .weights .now)) (sym (room-as-judged _ _ _ _ (m .ensures) (k .ensures) (c .before .before .before .before .before .before .before .before .before .before .before .before .room .ensures)) ∙ c .before .before .before .before .before .before .before .before .before .before .enum-told .given .1) in
+    let short = fault (s .args .e) (s .args .words .now) (s .args .first .now) (s .args .second .now) (s .args .literals .now) (s .args .weights .now) in
+    let e = fit-enough short (sym (room-as-judged _ _ _ _ (m .ensures) (k .ensures)
+    (c .before .before .before .before .before .before .before .before .before .before .before .before .room .ensures))
+    ∙ c .before .before .before .before .before .before .before .before .before .before .enum-told .given .1) in
     rw e (c .before .before .before .before .before .write-all .ensures)
 
 pub encode-checked-spec : {M : Type 1} → statement M

@@ -16,8 +16,12 @@ put-hard-requires c κs =
 
 put-soft-requires : tie.Need-put-soft-requires
 put-soft-requires c κs =
-    let s = c .before .before .before .before .before .before .before .before in
-    (s .pre .0, s .pre .1, s .pre .2, room-soft (s .args .part) (s .args .side) (tableOf (s .args .words .now)) (s .pre .3) (c .before .before .before .before .put-hard .ensures))
+    let s = c .before .before .before .before .before .before .before .before in (
+      s .pre .0,
+      s .pre .1,
+      s .pre .2,
+      room-soft (s .args .part) (s .args .side) (tableOf (s .args .words .now)) (s .pre .3) (c .before .before .before .before .put-hard .ensures),
+    )
 
 same-length : tie.Need-same-length
 same-length c = search needs
@@ -31,8 +35,12 @@ same-length-3 c = search needs
 returns : tie.Need-returns
 returns c =
     let s = c .before .before .before .before .before .before .before .before .before .before .before .before in
-    let soft = c .before .before .before .put-soft .ensures in
-    (whole-put (s .args .part) (s .args .side) (tableOf (s .args .words .now)) (c .before .before .before .before .before .before .before .before .put-hard .ensures) (soft .0), soft .1, soft .2)
+    let soft = c .before .before .before .put-soft .ensures in (
+      whole-put (s .args .part) (s .args .side) (tableOf (s .args .words .now))
+          (c .before .before .before .before .before .before .before .before .put-hard .ensures) (soft .0),
+      soft .1,
+      soft .2,
+    )
 
 pub put-all-spec : {M : Type 1} → statement M
 put-all-spec =

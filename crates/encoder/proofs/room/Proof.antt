@@ -20,12 +20,22 @@ returns-3 c =
 returns-4 : tie.Need-returns-4
 unfolding roomFault
 returns-4 c =
-    simp (le-leb _ _ (c .before .before .before .before .before .before .if1 .left), le-leb _ _ (c .before .before .before .before .if2 .left), le-leb _ _ (c .before .before .if3 .left), lt-leb _ _ (c .if4 .taken))
+    simp (
+      le-leb _ _ (c .before .before .before .before .before .before .if1 .left),
+      le-leb _ _ (c .before .before .before .before .if2 .left),
+      le-leb _ _ (c .before .before .if3 .left),
+      lt-leb _ _ (c .if4 .taken),
+    )
 
 returns-5 : tie.Need-returns-5
 unfolding roomFault
 returns-5 c =
-    simp (le-leb _ _ (c .before .before .before .before .before .before .if1 .left), le-leb _ _ (c .before .before .before .before .if2 .left), le-leb _ _ (c .before .before .if3 .left), le-leb _ _ (c .if4 .left))
+    simp (
+      le-leb _ _ (c .before .before .before .before .before .before .if1 .left),
+      le-leb _ _ (c .before .before .before .before .if2 .left),
+      le-leb _ _ (c .before .before .if3 .left),
+      le-leb _ _ (c .if4 .left),
+    )
 
 pub room-spec : {M : Type 1} → statement M
 room-spec = tie.close (tie.spec returns returns-2 returns-3 returns-4 returns-5)

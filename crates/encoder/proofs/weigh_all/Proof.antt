@@ -25,7 +25,8 @@ same-length c = search needs
 returns : tie.Need-returns
 returns c =
     let s = c .before .before .before .before .before .before .before .before .before .before .before in
-    whole-weighed (s .args .part) (s .args .side) (tableOf (s .args .words .now)) (c .before .before .before .before .before .before .weigh-hard .ensures) (c .before .before .weigh-soft .ensures)
+    whole-weighed (s .args .part) (s .args .side) (tableOf (s .args .words .now))
+    (c .before .before .before .before .before .before .weigh-hard .ensures) (c .before .before .weigh-soft .ensures)
 
 pub weigh-all-spec : {M : Type 1} → statement M
 weigh-all-spec =

@@ -38,9 +38,12 @@ same-length-4 c = search needs
 
 returns : tie.Need-returns
 returns c =
-    let s = c .before .before .before .before .before .before .before .before .before .before .before .before .before .before .before .before .before .before .before in
-    let put = c .before .before .before .before .before .before .before .before .before .before .before .before .before .put-all .ensures in
-    all-written (s .args .e) (tableOf (s .args .words .now)) _ _ _ _ (put .0) (c .before .before .before .before .before .before .before .before .weigh-all .ensures) (put .1) (put .2) (c .before .before .before .before .tidy .ensures) (c .before .tidy2 .ensures)
+    let p = c .before .before .before .before .before .before .before .before .before .before .before .before .before in
+    let s = p .before .before .before .before .before .before in
+    let put = p .put-all .ensures in
+    all-written (s .args .e) (tableOf (s .args .words .now)) _ _ _ _ (put .0)
+    (c .before .before .before .before .before .before .before .before .weigh-all .ensures) (put .1) (put .2)
+    (c .before .before .before .before .tidy .ensures) (c .before .tidy2 .ensures)
 
 pub write-all-spec : {M : Type 1} → statement M
 write-all-spec =

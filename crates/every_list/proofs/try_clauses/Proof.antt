@@ -34,7 +34,8 @@ array-share-prefix-literals : tie.Need-array-share-prefix-literals
 array-share-prefix-literals c = search needs
 
 slice-aggregate-try-all : tie.Need-slice-aggregate-try-all
-slice-aggregate-try-all c = sym (length-take-le _ _ (omega (arith, c .before .before .before .before .before .before .before .before .before .encode .kept .1 .1 .1 .1 .1 .0)))
+slice-aggregate-try-all c = sym
+    (length-take-le _ _ (omega (arith, c .before .before .before .before .before .before .before .before .before .encode .kept .1 .1 .1 .1 .1 .0)))
 
 slice-aggregate-try-all-2 : tie.Need-slice-aggregate-try-all-2
 slice-aggregate-try-all-2 c = search needs

@@ -53,7 +53,8 @@ loop-again c =
     let a = l .before .args in (
       omega arith,
       omega arith,
-      owes-part (l .loop .inv .2) (texts-turn (between (valueFrom (a .v)) (stepFrom (a .s))) (a .m) (l .loop .j) (t .loop-test .taken)) (p .put-between .ensures),
+      owes-part (l .loop .inv .2) (texts-turn (between (valueFrom (a .v)) (stepFrom (a .s))) (a .m) (l .loop .j) (t .loop-test .taken))
+          (p .put-between .ensures),
     )
 
 same-length : tie.Need-same-length Inv-loop μ-loop

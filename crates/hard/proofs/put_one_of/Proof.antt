@@ -33,7 +33,8 @@ put-plus-requires : tie.Need-put-plus-requires Inv-loop μ-loop
 put-plus-requires c κs =
     let l = c .before .before in
     let s = l .before in (
-      owes-room (pos (s .args .v + l .loop .j) ∷ []) _ (l .loop .inv .1) (values-turn (valueFrom (s .args .v)) (s .args .m + 1) (l .loop .j) (omega arith)) (s .pre .2),
+      owes-room (pos (s .args .v + l .loop .j) ∷ []) _ (l .loop .inv .1)
+          (values-turn (valueFrom (s .args .v)) (s .args .m + 1) (l .loop .j) (omega arith)) (s .pre .2),
       omega arith,
     )
 

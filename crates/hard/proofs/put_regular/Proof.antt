@@ -47,7 +47,13 @@ put-highest-requires c κs =
     let q = r .before .before .before in
     let p = q .before .before .before in
     let a = p .before .before .before .args in
-    omega (arith, regular-size (valueFrom (a .v)) (stepFrom (a .s)) (a .m) (omega arith), p .put-chain .ensures .next, q .put-lowest .ensures .next, r .put-all-between .ensures .next)
+    omega (
+      arith,
+      regular-size (valueFrom (a .v)) (stepFrom (a .s)) (a .m) (omega arith),
+      p .put-chain .ensures .next,
+      q .put-lowest .ensures .next,
+      r .put-all-between .ensures .next,
+    )
 
 same-length-2 : tie.Need-same-length-2
 same-length-2 c = search needs

@@ -79,7 +79,8 @@ returns-3 c =
     let a = f .before .before .before .before .before .args in
     let m = c .before .before .before .before .before .before .before .before .before .m .given .0 .0 in
     let z : a .at + 5 + m - (a .at + 5) ≡ m = omega arith in
-    rw (below-list (a .hard) (a .side) (a .words .now) (a .text .now) (a .at) (sym (f .list-line .ensures) ∙ c .before .before .before .before .before .before .before .before .before .m .given .1))
+    rw (below-list (a .hard) (a .side) (a .words .now) (a .text .now) (a .at)
+    (sym (f .list-line .ensures) ∙ c .before .before .before .before .before .before .before .before .before .m .given .1))
     (rw z at (c .before .before .before .before .store .ensures))
 
 pub below-spec : {M : Type 1} → statement M

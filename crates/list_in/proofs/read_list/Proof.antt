@@ -90,7 +90,8 @@ returns-2 c =
     let at = i .line-start .result in
     let l = firstFault (parsed s) in
     let z : at ≡ lineStart l s = i .line-start .ensures ∙ ap (λ (k : ℕ). lineStart k s) (i .before .first-fault .ensures) in
-    let R = reads (take at s) _ refl (sym (c .before .before .before .before .before .before .before .before .before .hard .given .1) ∙ r .read-sheet .ensures .0) (r .read-sheet .ensures .1) in
+    let R = reads (take at s) _ refl (sym (c .before .before .before .before .before .before .before .before .before .hard .given .1)
+    ∙ r .read-sheet .ensures .0) (r .read-sheet .ensures .1) in
     rw (top-sheet s l at z (R .is)) (c .before .before .before .before .below .ensures)
 
 pub read-list-spec : {M : Type 1} → statement M

@@ -80,7 +80,8 @@ loop-again c =
       omega (arith, c .before .before .before .loop-test .taken),
       l .loop .inv .1,
       rw (c .next-pair .ensures) (turn .1),
-      rw (c .next-pair .ensures, new) (longest-turn f ws p (l .loop .k) (l .loop .at) (l .loop .best) _ (c .before .before .before .loop-test .taken) (l .loop .inv .3)),
+      rw (c .next-pair .ensures, new)
+          (longest-turn f ws p (l .loop .k) (l .loop .at) (l .loop .best) _ (c .before .before .before .loop-test .taken) (l .loop .inv .3)),
     )
 
 returns : tie.Need-returns Inv-loop μ-loop
@@ -89,7 +90,8 @@ returns c =
     let s = l .before .before .before in
     let ws = s .args .words .now in
     let z : s .args .counts .pairs - l .loop .k ≡ 0 = omega arith in
-    longest-last (candidateLength (tableOf ws) (whichBy (s .args .second))) ws (s .args .counts .pairs) (l .loop .k) (l .loop .at) (l .loop .best) _ z (l .loop .inv .3)
+    longest-last (candidateLength (tableOf ws) (whichBy (s .args .second))) ws (s .args .counts .pairs) (l .loop .k)
+    (l .loop .at) (l .loop .best) _ z (l .loop .inv .3)
 
 pub longest-list-spec : {M : Type 1} → statement M
 longest-list-spec =

@@ -31,7 +31,13 @@ add-variables : tie.Need-add-variables
 add-variables c =
     let v = c .before in
     let s = v .before .before .before .before .before .before in
-    omega (arith, c .switch-count .ensures, v .switch-base .ensures, bases-few (s .args .words .now) (s .pre .table) (s .args .e .hard), switches-few (s .args .words .now) (s .pre .table) (s .args .e .side))
+    omega (
+      arith,
+      c .switch-count .ensures,
+      v .switch-base .ensures,
+      bases-few (s .args .words .now) (s .pre .table) (s .args .e .hard),
+      switches-few (s .args .words .now) (s .pre .table) (s .args .e .side),
+    )
 
 add-clauses : tie.Need-add-clauses
 add-clauses c =

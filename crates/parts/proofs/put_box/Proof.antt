@@ -13,11 +13,13 @@ use Rattle.parts.proofs.put_box.Statement.{statement}
 use Rattle.parts.proofs.put_box.Tie as tie
 
 text-is : (c : tie.After-size) → let a = c .before .before .before .before .args in
-    boxWith (a .part) (c .before .before .value-base .result) (c .before .step-base .result) (c .size .result) ≡ boxClauses (a .part) (tableOf (a .words .now)) (a .b)
+    boxWith (a .part) (c .before .before .value-base .result) (c .before .step-base .result) (c .size .result)
+    ≡ boxClauses (a .part) (tableOf (a .words .now)) (a .b)
 text-is c =
     let s = c .before .before .before .before in
     let B = accepted-box (s .args .words .now) (s .args .b) (s .pre .0) (s .pre .2) in
-    box-is (s .args .part) (s .args .words .now) (s .args .b) _ _ _ B (c .before .before .value-base .ensures) (c .before .step-base .ensures) (c .size .ensures)
+    box-is (s .args .part) (s .args .words .now) (s .args .b) _ _ _ B (c .before .before .value-base .ensures)
+    (c .before .step-base .ensures) (c .size .ensures)
 
 value-base-requires : tie.Need-value-base-requires
 value-base-requires c κs = search needs

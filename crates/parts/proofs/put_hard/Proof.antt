@@ -59,7 +59,8 @@ loop-again c =
     let s = l .before .before in (
       omega arith,
       omega (arith, t .loop-test .taken),
-      owes-part (l .loop .inv .2) (hard-text (s .args .part) (tableOf (s .args .words .now)) (s .args .n) (l .loop .b) (t .loop-test .taken)) (p .put-box .ensures),
+      owes-part (l .loop .inv .2) (hard-text (s .args .part) (tableOf (s .args .words .now)) (s .args .n) (l .loop .b) (t .loop-test .taken))
+          (p .put-box .ensures),
     )
 
 same-length : tie.Need-same-length Inv-loop μ-loop

@@ -87,7 +87,8 @@ put-pair-requires c κs =
     let few = bases-few ws (s .pre .0 .table) (s .args .part) in
     let next : l .loop .switch + 1 ≡ values t + thresholds t (s .args .part) + (l .loop .k + 1) = omega (arith, is, l .loop .inv .3) in
     let text = soft-text (s .args .part) (s .args .side) ws p (l .loop .k) (l .loop .at) (c .before .before .before .loop-test .taken) in
-    let fits = owes-room (entriesOf (pairClauses (s .args .part) (s .args .side) t (l .loop .k + 1) (pairAt ws (l .loop .at)))) _ (l .loop .inv .4 .owed (s .args .part) is) text (s .pre .3) in (
+    let fits = owes-room (entriesOf (pairClauses (s .args .part) (s .args .side) t (l .loop .k + 1) (pairAt ws (l .loop .at)))) _
+    (l .loop .inv .4 .owed (s .args .part) is) text (s .pre .3) in (
       s .pre .0 .table,
       turn .0,
       omega (arith, few, is, l .loop .inv .3, l .loop .inv .0, l .loop .inv .1),
@@ -119,21 +120,22 @@ loop-again c =
     let ws = s .args .words .now in
     let p = s .args .counts .pairs in
     let t = tableOf ws in
-    let turn = ahead-turn ws p (l .loop .k) (l .loop .at) (c .before .before .before .before .before .before .before .before .loop-test .taken) (l .loop .inv .2) in
+    let taken = c .before .before .before .before .before .before .before .before .loop-test .taken in
+    let turn = ahead-turn ws p (l .loop .k) (l .loop .at) taken (l .loop .inv .2) in
     let side = s .args .side in
     let wrote = c .before .before .before .before .put-pair .ensures in
     let next = c .next-pair .ensures in
     let long-first = ap length (wrote .1) ∙ with-long side one t (pairAt ws (l .loop .at)) _ in
     let long-second = ap length (wrote .2) ∙ with-long side two t (pairAt ws (l .loop .at)) _ in (
-      omega (arith, c .before .before .before .before .before .before .before .before .loop-test .taken),
+      omega (arith, taken),
       l .loop .inv .1,
       rw next (turn .1),
       omega (arith, l .loop .inv .3),
-      writes-turn side ws p (l .loop .k) (l .loop .at) (c .before .before .before .before .before .before .before .before .loop-test .taken) (l .loop .inv .3) next (wrote .0) (l .loop .inv .4),
-      rw (next, long-first) (asked-next side one ws p (l .loop .k) (l .loop .at) _ (c .before .before .before .before .before .before .before .before .loop-test .taken) (l .loop .inv .5)),
-      rw (next, long-second) (asked-next side two ws p (l .loop .k) (l .loop .at) _ (c .before .before .before .before .before .before .before .before .loop-test .taken) (l .loop .inv .6)),
-      leaves-turn side one ws p (l .loop .k) (l .loop .at) (c .before .before .before .before .before .before .before .before .loop-test .taken) next (wrote .1) (l .loop .inv .7),
-      leaves-turn side two ws p (l .loop .k) (l .loop .at) (c .before .before .before .before .before .before .before .before .loop-test .taken) next (wrote .2) (l .loop .inv .8),
+      writes-turn side ws p (l .loop .k) (l .loop .at) taken (l .loop .inv .3) next (wrote .0) (l .loop .inv .4),
+      rw (next, long-first) (asked-next side one ws p (l .loop .k) (l .loop .at) _ taken (l .loop .inv .5)),
+      rw (next, long-second) (asked-next side two ws p (l .loop .k) (l .loop .at) _ taken (l .loop .inv .6)),
+      leaves-turn side one ws p (l .loop .k) (l .loop .at) taken next (wrote .1) (l .loop .inv .7),
+      leaves-turn side two ws p (l .loop .k) (l .loop .at) taken next (wrote .2) (l .loop .inv .8),
     )
 
 same-length : tie.Need-same-length Inv-loop μ-loop

@@ -61,7 +61,8 @@ put-weights-requires c κs =
     let A = s .pre .0 in
     let B = accepted-box ws (l .loop .b) A (l .loop .inv .0, omega (arith, s .pre .1, c .before .before .before .loop-test .taken)) in
     let count : c .before .box-tally .result .clauses ≡ length (boxClauses (s .args .part) (tableOf ws) (l .loop .b))
-    = ap (λ (u : Tally). u .clauses) (c .before .box-tally .ensures ∙ ap (boxTally (s .args .part)) (c .before .before .size .ensures) ∙ box-tally-is (s .args .part) ws A (l .loop .b) B) in
+    = ap (λ (u : Tally). u .clauses) (c .before .box-tally .ensures ∙ ap (boxTally (s .args .part)) (c .before .before .size .ensures)
+    ∙ box-tally-is (s .args .part) ws A (l .loop .b) B) in
     let text = hard-weights (s .args .part) (tableOf ws) (s .args .n) (l .loop .b) (c .before .before .before .loop-test .taken) in
     let room : s .args .from + length (replicate {A = ℕ} (length (hardPart (s .args .part) (tableOf ws))) 0) < 2 ^ 64 = rw length-replicate (s .pre .2) in
     let w : ℕ = 0 in
@@ -89,7 +90,8 @@ loop-again c =
     let A = s .pre .0 in
     let B = accepted-box ws (l .loop .b) A (l .loop .inv .0, omega (arith, s .pre .1, c .before .before .before .before .before .before .loop-test .taken)) in
     let count : c .before .before .before .before .box-tally .result .clauses ≡ length (boxClauses (s .args .part) (tableOf ws) (l .loop .b))
-    = ap (λ (u : Tally). u .clauses) (c .before .before .before .before .box-tally .ensures ∙ ap (boxTally (s .args .part)) (c .before .before .before .before .before .size .ensures) ∙ box-tally-is (s .args .part) ws A (l .loop .b) B) in
+    = ap (λ (u : Tally). u .clauses) (c .before .before .before .before .box-tally .ensures ∙ ap (boxTally (s .args .part))
+    (c .before .before .before .before .before .size .ensures) ∙ box-tally-is (s .args .part) ws A (l .loop .b) B) in
     let text = hard-weights (s .args .part) (tableOf ws) (s .args .n) (l .loop .b) (c .before .before .before .before .before .before .loop-test .taken) in (
       omega arith,
       omega (arith, c .before .before .before .before .before .before .loop-test .taken),

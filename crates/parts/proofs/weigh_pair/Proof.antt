@@ -26,7 +26,8 @@ same-length c = search needs
 returns : tie.Need-returns
 returns c =
     let n = ap (λ (t : Tally). t .clauses) (c .before .before .before .before .before .before .pair-tally .ensures) in
-    let w = c .before .before .before .weight-as-sum .ensures ∙ ap (λ (h : PairHead). h .weight) (c .before .before .before .before .before .pair-at .ensures) in
+    let w = c .before .before .before .weight-as-sum .ensures
+    ∙ ap (λ (h : PairHead). h .weight) (c .before .before .before .before .before .pair-at .ensures) in
     rw (n, w) at (c .before .before .put-weights .ensures)
 
 pub weigh-pair-spec : {M : Type 1} → statement M

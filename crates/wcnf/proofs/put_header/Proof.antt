@@ -13,20 +13,38 @@ slice-aggregate-put-bytes c = search needs
 put-bytes-requires : tie.Need-put-bytes-requires
 put-bytes-requires c κs =
     let s = c .before .before .before in
-    omega (arith, length-header (s .args .variables) (s .args .clauses) (s .args .top), header-short _ _ _ (s .fits .variables .fits) (s .fits .clauses .fits) (s .fits .top .fits), s .pre)
+    omega (
+      arith,
+      length-header (s .args .variables) (s .args .clauses) (s .args .top),
+      header-short _ _ _ (s .fits .variables .fits) (s .fits .clauses .fits) (s .fits .top .fits),
+      s .pre,
+    )
 
 put-ended-requires : tie.Need-put-ended-requires
 put-ended-requires c κs =
     let d = c .before .before .before in
     let s = d .before .before .before .before in
-    omega (arith, length-header (s .args .variables) (s .args .clauses) (s .args .top), header-short _ _ _ (s .fits .variables .fits) (s .fits .clauses .fits) (s .fits .top .fits), s .pre, d .put-bytes .ensures .next)
+    omega (
+      arith,
+      length-header (s .args .variables) (s .args .clauses) (s .args .top),
+      header-short _ _ _ (s .fits .variables .fits) (s .fits .clauses .fits) (s .fits .top .fits),
+      s .pre,
+      d .put-bytes .ensures .next,
+    )
 
 put-ended-requires-2 : tie.Need-put-ended-requires-2
 put-ended-requires-2 c κs =
     let e = c .before .before .before in
     let d = e .before .before .before .before in
     let s = d .before .before .before .before in
-    omega (arith, length-header (s .args .variables) (s .args .clauses) (s .args .top), header-short _ _ _ (s .fits .variables .fits) (s .fits .clauses .fits) (s .fits .top .fits), s .pre, d .put-bytes .ensures .next, e .put-ended .ensures .next)
+    omega (
+      arith,
+      length-header (s .args .variables) (s .args .clauses) (s .args .top),
+      header-short _ _ _ (s .fits .variables .fits) (s .fits .clauses .fits) (s .fits .top .fits),
+      s .pre,
+      d .put-bytes .ensures .next,
+      e .put-ended .ensures .next,
+    )
 
 put-ended-requires-3 : tie.Need-put-ended-requires-3
 put-ended-requires-3 c κs =
@@ -34,7 +52,15 @@ put-ended-requires-3 c κs =
     let e = f .before .before .before .before in
     let d = e .before .before .before .before in
     let s = d .before .before .before .before in
-    omega (arith, length-header (s .args .variables) (s .args .clauses) (s .args .top), header-short _ _ _ (s .fits .variables .fits) (s .fits .clauses .fits) (s .fits .top .fits), s .pre, d .put-bytes .ensures .next, e .put-ended .ensures .next, f .put-ended2 .ensures .next)
+    omega (
+      arith,
+      length-header (s .args .variables) (s .args .clauses) (s .args .top),
+      header-short _ _ _ (s .fits .variables .fits) (s .fits .clauses .fits) (s .fits .top .fits),
+      s .pre,
+      d .put-bytes .ensures .next,
+      e .put-ended .ensures .next,
+      f .put-ended2 .ensures .next,
+    )
 
 same-length : tie.Need-same-length
 same-length c = search needs
@@ -46,7 +72,8 @@ returns c =
     let e = f .before .before .before .before in
     let d = e .before .before .before .before in
     let s = d .before .before .before .before in
-    let w = wrote-append (d .put-bytes .ensures) (wrote-append (e .put-ended .ensures) (wrote-append (f .put-ended2 .ensures) (c .before .before .put-ended3 .ensures))) in
+    let w = wrote-append (d .put-bytes .ensures)
+    (wrote-append (e .put-ended .ensures) (wrote-append (f .put-ended2 .ensures) (c .before .before .put-ended3 .ensures))) in
     (w, omega (arith, w .next, header-short _ _ _ (s .fits .variables .fits) (s .fits .clauses .fits) (s .fits .top .fits)))
 
 pub put-header-spec : {M : Type 1} → statement M

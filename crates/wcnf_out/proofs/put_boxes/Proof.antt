@@ -71,9 +71,11 @@ loop-again c =
     let wrote = p .put-box .ensures in (
       omega arith,
       omega (arith, t .loop-test .taken),
-      ap length (wrote .1) ∙ length-sets (l .loop .clauses) 0 (entriesOf (boxClauses (s .args .part) (tableOf (s .args .words .now)) (l .loop .b))) ∙ l .loop .inv .2,
+      ap length (wrote .1) ∙ length-sets (l .loop .clauses) 0 (entriesOf (boxClauses (s .args .part) (tableOf (s .args .words .now)) (l .loop .b)))
+          ∙ l .loop .inv .2,
       omega (arith, wrote .2, l .loop .inv .3, l .loop .inv .0),
-      owes-part (l .loop .inv .4) (boxes-turn (s .args .top) (s .args .part) (tableOf (s .args .words .now)) (s .args .n) (l .loop .b) (t .loop-test .taken)) (wrote .0),
+      owes-part (l .loop .inv .4) (boxes-turn (s .args .top) (s .args .part) (tableOf (s .args .words .now)) (s .args .n) (l .loop .b) (t .loop-test .taken))
+          (wrote .0),
     )
 
 same-length : tie.Need-same-length Inv-loop μ-loop

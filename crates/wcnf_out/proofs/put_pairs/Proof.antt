@@ -135,7 +135,8 @@ loop-again c =
       rw (next, long-second) (asked-next side two ws p k at _ taken (l .loop .inv .6)),
       leaves-turn side one ws p k at taken next (wrote .1) (l .loop .inv .7),
       leaves-turn side two ws p k at taken next (wrote .2) (l .loop .inv .8),
-      ap length (wrote .3) ∙ length-sets (l .loop .clauses) 0 (entriesOf (soft side (tableOf ws) (plus v ∷ []) (minus v ∷ []) (pairAt ws at))) ∙ l .loop .inv .9,
+      ap length (wrote .3) ∙ length-sets (l .loop .clauses) 0 (entriesOf (soft side (tableOf ws) (plus v ∷ []) (minus v ∷ []) (pairAt ws at)))
+          ∙ l .loop .inv .9,
       omega (arith, wrote .4, l .loop .inv .10),
     )
 

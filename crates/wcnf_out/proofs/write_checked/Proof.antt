@@ -34,7 +34,8 @@ returns-3 c =
     let m = c .before .before .before .before .before in
     let k = m .before .before in
     let s = k .before .before .before in
-    text-short (s .args .e) (tableOf (s .args .words .now)) _ _ _ (k .scratch-over .ensures) (m .text-length .ensures) (c .before .before .before .if1 .left) (c .before .if2 .left) (c .if3 .taken)
+    text-short (s .args .e) (tableOf (s .args .words .now)) _ _ _ (k .scratch-over .ensures) (m .text-length .ensures)
+    (c .before .before .before .if1 .left) (c .before .if2 .left) (c .if3 .taken)
 
 write-text-requires : tie.Need-write-text-requires
 write-text-requires c κs =
@@ -61,7 +62,8 @@ returns-4 c =
     let m = t .before .before .before .before .before in
     let k = m .before .before in
     let s = k .before .before .before in
-    long-enough (s .args .e) (tableOf (s .args .words .now)) _ _ _ (k .scratch-over .ensures) (m .text-length .ensures) (t .before .before .before .if1 .left) (t .before .if2 .left) (t .if3 .left) (c .before .before .before .before .write-text .ensures)
+    long-enough (s .args .e) (tableOf (s .args .words .now)) _ _ _ (k .scratch-over .ensures) (m .text-length .ensures)
+    (t .before .before .before .if1 .left) (t .before .if2 .left) (t .if3 .left) (c .before .before .before .before .write-text .ensures)
 
 pub write-checked-spec : {M : Type 1} → statement M
 write-checked-spec =

@@ -16,16 +16,19 @@ add-i c =
     omega (arith, long, length-drop (c .args .at) (c .args .s .now), c .pre .1 .1)
 
 shared-slice-read-result : tie.Need-shared-slice-read-result
-shared-slice-read-result c = let s = c .before in turn-bit (s .args .s .now) (s .args .at) (s .args .m) (s .args .j) (s .pre .0) (s .pre .1 .0) (s .pre .1 .1) .within
+shared-slice-read-result c = let s = c .before in turn-bit (s .args .s .now) (s .args .at) (s .args .m) (s .args .j)
+    (s .pre .0) (s .pre .1 .0) (s .pre .1 .1) .within
 
 sub-result : tie.Need-sub-result
 sub-result c = let s = c .before in turn-bit (s .args .s .now) (s .args .at) (s .args .m) (s .args .j) (s .pre .0) (s .pre .1 .0) (s .pre .1 .1) .low
 
 cast-result : tie.Need-cast-result
-cast-result c = let s = c .before in omega (arith, turn-bit (s .args .s .now) (s .args .at) (s .args .m) (s .args .j) (s .pre .0) (s .pre .1 .0) (s .pre .1 .1) .high)
+cast-result c = let s = c .before in omega
+    (arith, turn-bit (s .args .s .now) (s .args .at) (s .args .m) (s .args .j) (s .pre .0) (s .pre .1 .0) (s .pre .1 .1) .high)
 
 returns : tie.Need-returns
-returns c = let s = c .before in (refl, omega (arith, turn-bit (s .args .s .now) (s .args .at) (s .args .m) (s .args .j) (s .pre .0) (s .pre .1 .0) (s .pre .1 .1) .high))
+returns c = let s = c .before in
+    (refl, omega (arith, turn-bit (s .args .s .now) (s .args .at) (s .args .m) (s .args .j) (s .pre .0) (s .pre .1 .0) (s .pre .1 .1) .high))
 
 pub bit-of-spec : {M : Type 1} → statement M
 bit-of-spec =
