@@ -1,3 +1,6 @@
+pub mod OneValue
+pub mod StandardBox
+pub mod RegularBox
 pub mod Boxes
 pub mod Soft
 pub mod Weights

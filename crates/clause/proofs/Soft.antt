@@ -17,7 +17,7 @@ use Rattle.clause.specs.Numbers.{valueFrom, x}
 use Rattle.clause.specs.Ends.{End, Which, one, two, end, directAt, directRow, directClauses, supports, full, supportAt, supportClauses}
 use Rattle.clause.specs.Choice.{byLiterals, byScore}
 use Rattle.clause.specs.Soft.{pick, softWith, soft}
-use Rattle.clause.proofs.Boxes.{Holds, holds-is, holds-not}
+use Rattle.clause.proofs.OneValue.{Holds, holds-is, holds-not}
 
 -- Seen from one end, whose box holds a and the other b.
 module _ (ν : Reading) (e : End) (a b : ℕ) (H : Holds ν (valueFrom (e .own)) (e .mine) a) (K : Holds ν (valueFrom (e .other)) (e .theirs) b) where

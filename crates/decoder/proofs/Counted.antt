@@ -15,7 +15,8 @@ use Rattle.clause.specs.declared.Hard.the-variants.{Standard, Regular}
 use Rattle.clause.specs.Clause.{Reading, reads, allTrue}
 use Rattle.clause.specs.Numbers.{valueFrom, stepFrom, valueBase, stepBase}
 use Rattle.clause.specs.Hard.{boxWith, boxClauses}
-use Rattle.clause.proofs.Boxes.{Steps, holds-exact, box-holds, holds-box}
+use Rattle.clause.proofs.OneValue.{holds-exact}
+use Rattle.clause.proofs.Boxes.{Steps, box-holds, holds-box}
 use Rattle.decoder.specs.Lists.{boxOk, held}
 use Rattle.decoder.specs.Counted.{trueCount, stepsSay, countedOk}
 use Rattle.lists.proofs.Truth.{same-test, beq-exact}

@@ -17,7 +17,7 @@ use Rattle.clause.specs.declared.Side.{Side}
 use Rattle.clause.specs.Clause.{plus, minus, weigh, Reading, clauseTrue, falsified, hardTrue}
 use Rattle.clause.specs.Numbers.{x, c}
 use Rattle.clause.specs.List.{pairClauses, softFrom, softPart}
-use Rattle.clause.proofs.Boxes.{Holds}
+use Rattle.clause.proofs.OneValue.{Holds}
 use Rattle.clause.proofs.Soft.{pair-lost}
 use Rattle.clause.proofs.Weights.{falsified-weigh, hard-weigh}
 

@@ -22,7 +22,8 @@ use Rattle.clause.specs.Clause.{weigh, Reading, reads, clauseTrue, lost, falsif
 use Rattle.clause.specs.Numbers.{valueBase, stepBase, x}
 use Rattle.clause.specs.Hard.{boxClauses}
 use Rattle.clause.specs.List.{hardPart, softPart, clauses}
-use Rattle.clause.proofs.Boxes.{Holds, Steps, box-holds, holds-box}
+use Rattle.clause.proofs.OneValue.{Holds}
+use Rattle.clause.proofs.Boxes.{Steps, box-holds, holds-box}
 use Rattle.clause.proofs.Weights.{falsified-weigh, hard-weigh}
 use Rattle.decoder.specs.Lists.{Accepts, boxOk, held, valueOf, planOf}
 use Rattle.decoder.proofs.Pays.{Fits, soft-cost, soft-hard}
