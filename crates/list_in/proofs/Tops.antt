@@ -8,7 +8,7 @@ use lib.ListN.{length, length-append, take}
 use lib.Dec.{leb}
 use borrow.Author.Tests.{le-leb, leb-true}
 use Rattle.lists.specs.Lists.{Each}
-use Rattle.lists.proofs.Sums.{sum-most, length-flat}
+use Rattle.lists.proofs.Sums.{each-as, sum-most, length-flat}
 use Rattle.lists.proofs.Stores.{sets-begins}
 use Rattle.refusal.specs.declared.Refusal.{Refusal}
 use Rattle.refusal.specs.declared.Refusal.the-variants.{Line}
@@ -17,7 +17,7 @@ use Rattle.table.specs.Table.{Pair, Table, pairWords, wordsOf, SoundPair, Sound
 use Rattle.table.specs.Words.{judged, accepted, Accepted}
 use Rattle.table.proofs.Words.{accepted-fine}
 use Rattle.table.proofs.Round.{sound-accepted}
-use Rattle.sheet.proofs.Sheets.{size-most, each-as}
+use Rattle.sheet.proofs.Sheets.{size-most}
 use Rattle.sheet_in.specs.declared.ReadSheet.{ReadSheet}
 use Rattle.sheet_in.specs.Parsed.{Parsed, sheet, faulty, parsed, fits, readOf, tableLeft}
 use Rattle.sheet_in.proofs.Round.{read-written}

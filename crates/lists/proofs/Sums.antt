@@ -1,4 +1,4 @@
--- Sums and lengths of lists whose entries are all alike, or bounded; `Each` over ++, map and flatMap.
+-- Sums and lengths of lists whose entries are all alike, or bounded; `Each` over ++, map, flatMap and a run of numbers.
 use mathlib.Core.Path.{_≡_, refl, ap, _∙_}
 use Prim.Native.Nat.{ℕ, zero, suc, _+_, _*_, _≤_}
 use native.Mathlib.Omega.{arith}
@@ -13,6 +13,10 @@ module _ {A : Type 0} where
   pub every-each : (P : A → Type 0) → ((a : A) → P a) → (l : List A) → Each P l
   every-each P g [] = tt
   every-each P g (a ∷ l) = (g a, every-each P g l)
+
+  pub each-as : (P Q : A → Type 0) → ((a : A) → P a → Q a) → (l : List A) → Each P l → Each Q l
+  each-as P Q f [] e = tt
+  each-as P Q f (a ∷ l) (h, e) = (f a h, each-as P Q f l e)
 
   pub each-append : (P : A → Type 0) (k l : List A) → Each P k → Each P l → Each P (k ++ l)
   each-append P [] l d e = e
@@ -64,3 +68,28 @@ one-most false = omega arith
 pub each-replicate : {A : Type 0} (P : A → Type 0) (a : A) → P a → (n : ℕ) → Each P (replicate n a)
 each-replicate P a p zero = tt
 each-replicate P a p (suc n) = (p, each-replicate P a p n)
+
+-- ---- over a run of numbers
+
+module _ {B : Type 0} (P : B → Type 0) where
+  pub each-map-run : (g : ℕ → B) (s n : ℕ) → ((j : ℕ) → s ≤ j → P (g j)) → Each P (map g (count s n))
+  each-map-run g s zero h = tt
+  each-map-run g s (suc n) h = (h s (omega arith), each-map-run g (suc s) n (λ j l. h j (omega arith)))
+
+  pub each-flat-run : (g : ℕ → List B) (s n : ℕ) → ((j : ℕ) → s ≤ j → Each P (g j)) → Each P (flatMap g (count s n))
+  unfolding flatMap
+  each-flat-run g s zero h = tt
+  each-flat-run g s (suc n) h = each-append P (g s) _ (h s (omega arith)) (each-flat-run g (suc s) n (λ j l. h j (omega arith)))
+
+  taken : (g : ℕ → B) (o : Bool) (j : ℕ) (l : List ℕ) → P (g j) → Each P (map g l) → Each P (map g (cond o (j ∷ l) l))
+  taken g true j l p q = (p, q)
+  taken g false j l p q = q
+
+  pub each-those-run : (g : ℕ → B) (f : ℕ → Bool) (s n : ℕ) → ((j : ℕ) → s ≤ j → P (g j)) → Each P (map g (those f (count s n)))
+  each-those-run g f s zero h = tt
+  each-those-run g f s (suc n) h =
+      taken g (f s) s (those f (count (suc s) n)) (h s (omega arith)) (each-those-run g f (suc s) n (λ j l. h j (omega arith)))
+
+  pub each-cond : (o : Bool) (b : B) → P b → Each P (cond o [] (b ∷ []))
+  each-cond true b p = tt
+  each-cond false b p = (p, tt)

@@ -12,7 +12,7 @@ use Rattle.clause.specs.declared.Side.{Side}
 use Rattle.clause.specs.declared.Side.the-variants.{Direct, Support, First, Literals, Score}
 use Rattle.lists.specs.Lists.{nth, Each}
 use Rattle.lists.proofs.Lists.{each-at}
-use Rattle.lists.proofs.Sums.{sum-most, length-flat}
+use Rattle.lists.proofs.Sums.{each-as, sum-most, length-flat}
 use Rattle.lists.proofs.Decimal.{length-digits}
 use Rattle.table.specs.Table.{Pair, Table, boxes, In, SoundPair, Sound}
 use Rattle.text_out.specs.Texts.{lineOf, rowOf}
@@ -71,10 +71,6 @@ pairs-nil sizes = refl
 
 short-line : (key : List ℕ) (n : ℕ) → n < 10000000 → length (lineOf key n) ≤ length key + 8
 short-line key n h = omega (arith, length-line key n, length-digits 6 n (omega arith))
-
-pub each-as : {A : Type 0} (P Q : A → Type 0) → ((a : A) → P a → Q a) → (l : List A) → Each P l → Each Q l
-each-as P Q f [] e = tt
-each-as P Q f (a ∷ l) (h, e) = (f a h, each-as P Q f l e)
 
 short-flat : {A : Type 0} (g : A → List ℕ) (P : A → Type 0) (k : ℕ) → ((a : A) → P a → length (g a) ≤ k) → (l : List A) → Each P l
     → length (flatMap g l) ≤ length l * k

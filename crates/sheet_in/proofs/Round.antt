@@ -10,6 +10,7 @@ use lib.Seq.{drop-length, drop-append-seam}
 use lib.Dec.{leb}
 use borrow.Author.Tests.{le-leb, lt-leb, leb-true}
 use Rattle.lists.specs.Lists.{Each}
+use Rattle.lists.proofs.Sums.{each-as}
 use Rattle.clause.specs.declared.Hard.{Hard}
 use Rattle.clause.specs.declared.Side.{Side}
 use Rattle.table.specs.Table.{Pair, Table, boxes, pairWords, wordsOf, In, SoundPair, Sound}
@@ -22,7 +23,6 @@ use Rattle.scan.proofs.Places.{stands-append, stands-split}
 use Rattle.scan.proofs.Lines.{exact-line}
 use Rattle.sheet.specs.Keys.{boxesKey, valuesKey, pairsKey, hardLine, sideLine, hardNumber, sideNumber}
 use Rattle.sheet.specs.Sheet.{valuesText, pairText, pairsText, bodyText, sheetText}
-use Rattle.sheet.proofs.Sheets.{each-as}
 use Rattle.sheet_scan.specs.Found.{hardAt, sideAt}
 use Rattle.sheet_scan.proofs.Choices.{hard-found, side-found, hard-was, side-was}
 use Rattle.sheet_in.specs.Reading.{Got, read, fault, valuesAt, pairsAt}

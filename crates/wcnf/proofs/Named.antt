@@ -1,11 +1,9 @@
 -- No variable has number 0: so a 0 in a clause list closes a clause, and nothing else does.
-use mathlib.Core.Path.{_≡_, refl}
-use mathlib.Core.Bool.{Bool, true, false, cond}
 use mathlib.Core.List.{List, [], _∷_, _++_, map, flatMap}
-use Prim.Native.Nat.{ℕ, zero, suc, _+_, _-_, _≤_}
+use Prim.Native.Nat.{ℕ, zero, suc, _-_, _≤_}
 use native.Mathlib.Omega.{arith}
-use Rattle.lists.specs.Lists.{count, those, Each}
-use Rattle.lists.proofs.Sums.{each-append}
+use Rattle.lists.specs.Lists.{count, Each}
+use Rattle.lists.proofs.Sums.{each-append, each-map-run, each-flat-run, each-those-run, each-cond}
 use Rattle.table.specs.Table.{Table, Pair}
 use Rattle.clause.specs.declared.Hard.{Hard}
 use Rattle.clause.specs.declared.Hard.the-variants.{Standard, Regular}
@@ -17,7 +15,6 @@ use Rattle.clause.specs.Hard.{oneOf, notBoth, standardBox, chainAt, lowest, bet
 use Rattle.clause.specs.Ends.{End, one, two, end, directAt, directRow, directClauses, supports, full, supportAt, supportClauses}
 use Rattle.clause.specs.Soft.{pick, softWith, soft}
 use Rattle.clause.specs.Choice.{byLiterals, byScore}
-use Rattle.clause.specs.List.{pairClauses}
 
 abbrev pub number : Lit → ℕ
 number (plus v) = v
@@ -29,31 +26,6 @@ Named c = Each (λ l. 1 ≤ number l) c
 
 abbrev pub AllNamed : List Clause → Type 0
 AllNamed cs = Each Named cs
-
--- ---- over rising numbers
-
-module _ {B : Type 0} (P : B → Type 0) where
-  each-map-run : (g : ℕ → B) (s n : ℕ) → ((j : ℕ) → s ≤ j → P (g j)) → Each P (map g (count s n))
-  each-map-run g s zero h = tt
-  each-map-run g s (suc n) h = (h s (omega arith), each-map-run g (suc s) n (λ j l. h j (omega arith)))
-
-  each-flat-run : (g : ℕ → List B) (s n : ℕ) → ((j : ℕ) → s ≤ j → Each P (g j)) → Each P (flatMap g (count s n))
-  unfolding flatMap
-  each-flat-run g s zero h = tt
-  each-flat-run g s (suc n) h = each-append P (g s) _ (h s (omega arith)) (each-flat-run g (suc s) n (λ j l. h j (omega arith)))
-
-  taken : (g : ℕ → B) (o : Bool) (j : ℕ) (l : List ℕ) → P (g j) → Each P (map g l) → Each P (map g (cond o (j ∷ l) l))
-  taken g true j l p q = (p, q)
-  taken g false j l p q = q
-
-  each-those-run : (g : ℕ → B) (f : ℕ → Bool) (s n : ℕ) → ((j : ℕ) → s ≤ j → P (g j)) → Each P (map g (those f (count s n)))
-  each-those-run g f s zero h = tt
-  each-those-run g f s (suc n) h =
-      taken g (f s) s (those f (count (suc s) n)) (h s (omega arith)) (each-those-run g f (suc s) n (λ j l. h j (omega arith)))
-
-  each-cond : (o : Bool) (b : B) → P b → Each P (cond o [] (b ∷ []))
-  each-cond true b p = tt
-  each-cond false b p = (p, tt)
 
 -- ---- a box
 
