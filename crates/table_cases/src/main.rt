@@ -1,54 +1,37 @@
 // The table crate's edge cases, a line each: what the check or the cost answers. Held to the file stdout.
 use plan::Costed;
-use refusal::Refusal;
 use table::Checked;
 
-fn say(text: &[u8]) {
-    io::write_all(1, text);
-}
-
-fn say_number(n: usize) {
-    io::print_decimal(1, n as u64);
-}
-
-fn say_refusal(f: Refusal) {
-    say(b"refused=");
-    say_number(refusal::number(f) as usize);
-    say(b" place=");
-    say_number(refusal::place(f));
-    say(b"\n");
-}
-
 fn show(name: &[u8], words: &[u32]) {
-    say(name);
+    says::text(name);
     match table::check(words) {
-        Checked::Refused(f) => say_refusal(f),
+        Checked::Refused(f) => says::refused(f),
         Checked::Accepted(counts) => {
-            say(b"boxes=");
-            say_number(counts.boxes);
-            say(b" pairs=");
-            say_number(counts.pairs);
-            say(b"\n");
+            says::text(b"boxes=");
+            says::number(counts.boxes);
+            says::text(b" pairs=");
+            says::number(counts.pairs);
+            says::text(b"\n");
         }
     }
 }
 
 fn show_cost(name: &[u8], words: &[u32], plan: &[u32]) {
-    say(name);
+    says::text(name);
     match plan::cost(words, plan) {
-        Costed::Refused(f) => say_refusal(f),
+        Costed::Refused(f) => says::refused(f),
         Costed::Cost(c) => {
-            say(b"cost=");
-            io::print_decimal(1, c);
-            say(b"\n");
+            says::text(b"cost=");
+            says::sum(c);
+            says::text(b"\n");
         }
     }
 }
 
 fn show_first(words: &[u32], k: usize) {
     if k <= words.len() {
-        say(b"first ");
-        say_number(k);
+        says::text(b"first ");
+        says::number(k);
         show(b" words: ", &words[..k]);
     }
 }

@@ -6,14 +6,14 @@ use borrow.Author.Needs.{needs}
 use Rattle.table_cases.proofs.show_first.Statement.{statement}
 use Rattle.table_cases.proofs.show_first.Tie as tie
 
-slice-aggregate-say : tie.Need-slice-aggregate-say
-slice-aggregate-say c = search needs
+slice-aggregate-text : tie.Need-slice-aggregate-text
+slice-aggregate-text c = search needs
 
-say-requires : tie.Need-say-requires
-say-requires c κs = search needs
+text-requires : tie.Need-text-requires
+text-requires c κs = search needs
 
-say-number-requires : tie.Need-say-number-requires
-say-number-requires c κs = search needs
+number-requires : tie.Need-number-requires
+number-requires c κs = search needs
 
 slice-aggregate-show : tie.Need-slice-aggregate-show
 slice-aggregate-show c = search needs
@@ -34,9 +34,9 @@ pub show-first-spec : {M : Type 1} → statement M
 show-first-spec =
     tie.close
     (tie.spec
-    slice-aggregate-say
-    say-requires
-    say-number-requires
+    slice-aggregate-text
+    text-requires
+    number-requires
     slice-aggregate-show
     slice-aggregate-show-2
     show-requires
