@@ -1,50 +1,35 @@
 // The house sheet's cases, a line each: document 01's example read and written, damaged sheets, tables and choices that are no sheet,
 // and the largest table there and back. Held to the file stdout.
-use refusal::Refusal;
+mod largest;
+
 use sheet_in::ReadSheet;
 use sheet_out::Written;
-
-fn say(text: &[u8]) {
-    io::write_all(1, text);
-}
-
-fn say_number(n: usize) {
-    io::print_decimal(1, n as u64);
-}
-
-fn say_refusal(f: Refusal) {
-    say(b"refused=");
-    say_number(refusal::number(f) as usize);
-    say(b" place=");
-    say_number(refusal::place(f));
-    say(b"\n");
-}
 
 fn say_words(words: &[u32]) {
     let mut i = 0;
     while i < words.len() {
-        say(b" ");
-        say_number(lists::wide(lists::word(words, i)));
+        says::text(b" ");
+        says::number(lists::wide(lists::word(words, i)));
         i += 1;
     }
 }
 
 fn say_read(hard: u32, side: u32, words: &[u32]) {
-    say(b"hard part ");
-    say_number(hard as usize);
-    say(b", side ");
-    say_number(side as usize);
-    say(b", words");
+    says::text(b"hard part ");
+    says::number(hard as usize);
+    says::text(b", side ");
+    says::number(side as usize);
+    says::text(b", words");
     say_words(words);
-    say(b"\n");
+    says::text(b"\n");
 }
 
 // What reading a sheet answers, with the words that it leaves.
 fn show(name: &[u8], text: &[u8]) {
-    say(name);
+    says::text(name);
     let mut table = [0u32; 24];
     match sheet_in::read_sheet(text, &mut table) {
-        ReadSheet::Refused(f) => say_refusal(f),
+        ReadSheet::Refused(f) => says::refused(f),
         ReadSheet::Read(hard, side, n) => {
             if n <= table.len() {
                 say_read(hard, side, &table[..n]);
@@ -55,26 +40,26 @@ fn show(name: &[u8], text: &[u8]) {
 
 // The same for a table of 8 words.
 fn show_short(name: &[u8], text: &[u8]) {
-    say(name);
+    says::text(name);
     let mut table = [5u32; 8];
     match sheet_in::read_sheet(text, &mut table) {
-        ReadSheet::Refused(f) => say_refusal(f),
+        ReadSheet::Refused(f) => says::refused(f),
         ReadSheet::Read(hard, side, _) => say_read(hard, side, &table),
     }
-    say(b"the table is left as it was:");
+    says::text(b"the table is left as it was:");
     say_words(&table);
-    say(b"\n");
+    says::text(b"\n");
 }
 
 // What writing a sheet answers: the sheet, or the refusal.
 fn show_sheet(name: &[u8], words: &[u32], hard: u32, side: u32) {
-    say(name);
+    says::text(name);
     let mut text = [0u8; 128];
     match sheet_out::write_sheet(words, hard, side, &mut text) {
-        Written::Refused(f) => say_refusal(f),
+        Written::Refused(f) => says::refused(f),
         Written::Text(n) => {
             if n <= text.len() {
-                say(&text[..n]);
+                says::text(&text[..n]);
             }
         }
     }
@@ -82,14 +67,14 @@ fn show_sheet(name: &[u8], words: &[u32], hard: u32, side: u32) {
 
 // The same for a text of 104 bytes, one too few for the example.
 fn show_room(name: &[u8], words: &[u32]) {
-    say(name);
+    says::text(name);
     let mut text = [46u8; 104];
     match sheet_out::write_sheet(words, 0, 3, &mut text) {
-        Written::Refused(f) => say_refusal(f),
-        Written::Text(n) => say_number(n),
+        Written::Refused(f) => says::refused(f),
+        Written::Text(n) => says::number(n),
     }
-    say(&text);
-    say(b"\n");
+    says::text(&text);
+    says::text(b"\n");
 }
 
 fn choices() {
@@ -216,81 +201,6 @@ fn tables() {
     );
 }
 
-fn put(words: &mut [u32], at: usize, word: u32) {
-    if at < words.len() {
-        words[at] = word;
-    }
-}
-
-// The boxes and the weight of pair number k + 1 of the largest table, whose other words are all 16.
-fn put_head(words: &mut [u32], k: u32) {
-    let n = k % 256;
-    let at = 66 + 19 * (n as usize);
-    put(words, at, n % 64 + 1);
-    put(words, at + 1, (n + 1) % 64 + 1);
-    put(words, at + 2, 1000000);
-}
-
-fn put_heads(words: &mut [u32]) {
-    let mut k = 0;
-    while k < 256 {
-        put_head(words, k);
-        k += 1;
-    }
-}
-
-fn same(a: &[u32], b: &[u32]) -> bool {
-    if a.len() != b.len() {
-        return false;
-    }
-    let mut i = 0;
-    while i < a.len() {
-        if a[i] != b[i] {
-            return false;
-        }
-        i += 1;
-    }
-    true
-}
-
-// The largest table's sheet, read back.
-fn read_back(words: &[u32], text: &[u8]) {
-    let mut table = [0u32; 4930];
-    match sheet_in::read_sheet(text, &mut table) {
-        ReadSheet::Refused(f) => say_refusal(f),
-        ReadSheet::Read(hard, side, n) => {
-            say_number(hard as usize);
-            say(b" ");
-            say_number(side as usize);
-            say(b" ");
-            say_number(n);
-            if same(words, &table) {
-                say(b" words, the same");
-            }
-            say(b"\n");
-        }
-    }
-}
-
-fn most() {
-    let mut words = [16u32; 4930];
-    put(&mut words, 0, 64);
-    put(&mut words, 1, 256);
-    put_heads(&mut words);
-    let mut text = [0u8; 110000];
-    match sheet_out::write_sheet(&words, 1, 5, &mut text) {
-        Written::Refused(f) => say_refusal(f),
-        Written::Text(n) => {
-            say(b"the largest table's sheet has bytes: ");
-            say_number(n);
-            say(b"\nread back: ");
-            if n <= text.len() {
-                read_back(&words, &text[..n]);
-            }
-        }
-    }
-}
-
 fn main() {
     example();
     choices();
@@ -300,5 +210,5 @@ fn main() {
     rows();
     ends();
     tables();
-    most();
+    largest::there_and_back();
 }

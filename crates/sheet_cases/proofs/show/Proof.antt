@@ -6,8 +6,8 @@ use borrow.Author.Needs.{needs}
 use Rattle.sheet_cases.proofs.show.Statement.{statement}
 use Rattle.sheet_cases.proofs.show.Tie as tie
 
-say-requires : tie.Need-say-requires
-say-requires c κs = search needs
+text-requires : tie.Need-text-requires
+text-requires c κs = search needs
 
 slice-aggregate-read-sheet : tie.Need-slice-aggregate-read-sheet
 slice-aggregate-read-sheet c = search needs
@@ -18,8 +18,8 @@ read-sheet-requires c κs = search needs
 enum-known-f : tie.Need-enum-known-f
 enum-known-f c = search needs
 
-say-refusal-requires : tie.Need-say-refusal-requires
-say-refusal-requires c κs = search needs
+refused-requires : tie.Need-refused-requires
+refused-requires c κs = search needs
 
 enum-known-hard : tie.Need-enum-known-hard
 enum-known-hard c = search needs
@@ -46,11 +46,11 @@ pub show-spec : {M : Type 1} → statement M
 show-spec =
     tie.close
     (tie.spec
-    say-requires
+    text-requires
     slice-aggregate-read-sheet
     read-sheet-requires
     enum-known-f
-    say-refusal-requires
+    refused-requires
     enum-known-hard
     array-share-prefix-table
     slice-aggregate-say-read

@@ -6,8 +6,8 @@ use borrow.Author.Needs.{needs}
 use Rattle.sheet_cases.proofs.show_sheet.Statement.{statement}
 use Rattle.sheet_cases.proofs.show_sheet.Tie as tie
 
-say-requires : tie.Need-say-requires
-say-requires c κs = search needs
+text-requires : tie.Need-text-requires
+text-requires c κs = search needs
 
 slice-aggregate-write-sheet : tie.Need-slice-aggregate-write-sheet
 slice-aggregate-write-sheet c = search needs
@@ -18,8 +18,8 @@ write-sheet-requires c κs = search needs
 enum-known-f : tie.Need-enum-known-f
 enum-known-f c = search needs
 
-say-refusal-requires : tie.Need-say-refusal-requires
-say-refusal-requires c κs = search needs
+refused-requires : tie.Need-refused-requires
+refused-requires c κs = search needs
 
 enum-known-n : tie.Need-enum-known-n
 enum-known-n c = search needs
@@ -27,11 +27,11 @@ enum-known-n c = search needs
 array-share-prefix-text : tie.Need-array-share-prefix-text
 array-share-prefix-text c = search needs
 
-slice-aggregate-say : tie.Need-slice-aggregate-say
-slice-aggregate-say c = sym (length-take-le _ _ (omega (arith, c .before .before .before .before .before .before .write-sheet .kept .1 .1 .1 .0)))
+slice-aggregate-text : tie.Need-slice-aggregate-text
+slice-aggregate-text c = sym (length-take-le _ _ (omega (arith, c .before .before .before .before .before .before .write-sheet .kept .1 .1 .1 .0)))
 
-say-requires-2 : tie.Need-say-requires-2
-say-requires-2 c κs = search needs
+text-requires-2 : tie.Need-text-requires-2
+text-requires-2 c κs = search needs
 
 returns : tie.Need-returns
 returns c = search needs
@@ -46,15 +46,15 @@ pub show-sheet-spec : {M : Type 1} → statement M
 show-sheet-spec =
     tie.close
     (tie.spec
-    say-requires
+    text-requires
     slice-aggregate-write-sheet
     write-sheet-requires
     enum-known-f
-    say-refusal-requires
+    refused-requires
     enum-known-n
     array-share-prefix-text
-    slice-aggregate-say
-    say-requires-2
+    slice-aggregate-text
+    text-requires-2
     returns
     returns-2
     returns-3)

@@ -3,8 +3,8 @@ use lib.Seq.{length-take-le}
 use mathlib.Core.Path.{sym}
 use native.Mathlib.Omega.{arith}
 use borrow.Author.Needs.{needs}
-use Rattle.sheet_cases.proofs.most.Statement.{statement}
-use Rattle.sheet_cases.proofs.most.Tie as tie
+use Rattle.sheet_cases.proofs.largest.there_and_back.Statement.{statement}
+use Rattle.sheet_cases.proofs.largest.there_and_back.Tie as tie
 
 slice-aggregate-put : tie.Need-slice-aggregate-put
 slice-aggregate-put c = search needs
@@ -36,26 +36,26 @@ write-sheet-requires c κs = search needs
 enum-known-f : tie.Need-enum-known-f
 enum-known-f c = search needs
 
-say-refusal-requires : tie.Need-say-refusal-requires
-say-refusal-requires c κs = search needs
+refused-requires : tie.Need-refused-requires
+refused-requires c κs = search needs
 
 enum-known-n : tie.Need-enum-known-n
 enum-known-n c = search needs
 
-slice-aggregate-say : tie.Need-slice-aggregate-say
-slice-aggregate-say c = search needs
+slice-aggregate-text : tie.Need-slice-aggregate-text
+slice-aggregate-text c = search needs
 
-say-requires : tie.Need-say-requires
-say-requires c κs = search needs
+text-requires : tie.Need-text-requires
+text-requires c κs = search needs
 
-say-number-requires : tie.Need-say-number-requires
-say-number-requires c κs = search needs
+number-requires : tie.Need-number-requires
+number-requires c κs = search needs
 
-slice-aggregate-say-2 : tie.Need-slice-aggregate-say-2
-slice-aggregate-say-2 c = search needs
+slice-aggregate-text-2 : tie.Need-slice-aggregate-text-2
+slice-aggregate-text-2 c = search needs
 
-say-requires-2 : tie.Need-say-requires-2
-say-requires-2 c κs = search needs
+text-requires-2 : tie.Need-text-requires-2
+text-requires-2 c κs = search needs
 
 slice-aggregate-read-back : tie.Need-slice-aggregate-read-back
 slice-aggregate-read-back c = search needs
@@ -80,8 +80,8 @@ returns-2 c = search needs
 returns-3 : tie.Need-returns-3
 returns-3 c = search needs
 
-pub most-spec : {M : Type 1} → statement M
-most-spec =
+pub there-and-back-spec : {M : Type 1} → statement M
+there-and-back-spec =
     tie.close
     (tie.spec
     slice-aggregate-put
@@ -94,13 +94,13 @@ most-spec =
     slice-aggregate-write-sheet-2
     write-sheet-requires
     enum-known-f
-    say-refusal-requires
+    refused-requires
     enum-known-n
-    slice-aggregate-say
-    say-requires
-    say-number-requires
-    slice-aggregate-say-2
-    say-requires-2
+    slice-aggregate-text
+    text-requires
+    number-requires
+    slice-aggregate-text-2
+    text-requires-2
     slice-aggregate-read-back
     array-share-prefix-text
     slice-aggregate-read-back-2

@@ -2,8 +2,8 @@
 use lib.ListN.{length}
 use Prim.Native.Nat.{_-_, _≤_}
 use borrow.Author.Needs.{needs}
-use Rattle.sheet_cases.proofs.same.Statement.{statement}
-use Rattle.sheet_cases.proofs.same.Tie as tie
+use Rattle.sheet_cases.proofs.largest.same.Statement.{statement}
+use Rattle.sheet_cases.proofs.largest.same.Tie as tie
 
 abbrev Inv-loop : tie.InvT-loop
 Inv-loop a b i₀ i = i ≤ length a

@@ -4,8 +4,8 @@ use Prim.Native.Nat.{_-_, _≤_}
 use mathlib.Core.Path.{_≡_, refl, _∙_}
 use native.Mathlib.Omega.{arith}
 use borrow.Author.Needs.{needs}
-use Rattle.sheet_cases.proofs.put_heads.Statement.{statement}
-use Rattle.sheet_cases.proofs.put_heads.Tie as tie
+use Rattle.sheet_cases.proofs.largest.put_heads.Statement.{statement}
+use Rattle.sheet_cases.proofs.largest.put_heads.Tie as tie
 
 abbrev Inv-loop : tie.InvT-loop
 Inv-loop words₀ k₀ words k = (k ≤ 256) × (length words ≡ length words₀)
