@@ -4,8 +4,8 @@ use Prim.Native.Nat.{_-_, _≤_}
 use mathlib.Core.Path.{_≡_, refl, _∙_}
 use native.Mathlib.Omega.{arith}
 use borrow.Author.Needs.{needs}
-use Rattle.paper_table.proofs.draw_table.Statement.{statement}
-use Rattle.paper_table.proofs.draw_table.Tie as tie
+use Rattle.paper_table.proofs.draws.draw_table.Statement.{statement}
+use Rattle.paper_table.proofs.draws.draw_table.Tie as tie
 
 abbrev Inv-loop : tie.InvT-loop
 Inv-loop words₀ forbidden state u₀ boxes₀ words u boxes = (boxes ≤ 625) × (length words ≡ length words₀)

@@ -1,8 +1,8 @@
 -- Each of the 50 figures.
 use Prim.Native.Nat.{_-_, _≤_}
 use borrow.Author.Needs.{needs}
-use Rattle.paper_table.proofs.hold_figures.Statement.{statement}
-use Rattle.paper_table.proofs.hold_figures.Tie as tie
+use Rattle.paper_table.proofs.figures.hold_figures.Statement.{statement}
+use Rattle.paper_table.proofs.figures.hold_figures.Tie as tie
 
 abbrev Inv-loop : tie.InvT-loop
 Inv-loop totals agreed₀ figure₀ agreed figure = figure ≤ 50

@@ -4,8 +4,8 @@ use Prim.Native.Nat.{_-_, _≤_}
 use mathlib.Core.Path.{_≡_, refl, _∙_}
 use native.Mathlib.Omega.{arith}
 use borrow.Author.Needs.{needs}
-use Rattle.paper_table.proofs.draw_cells.Statement.{statement}
-use Rattle.paper_table.proofs.draw_cells.Tie as tie
+use Rattle.paper_table.proofs.draws.draw_cells.Statement.{statement}
+use Rattle.paper_table.proofs.draws.draw_cells.Tie as tie
 
 abbrev Inv-loop : tie.InvT-loop
 Inv-loop words₀ at state forbidden u₀ cell₀ words u cell = (cell ≤ 25) × (length words ≡ length words₀)
