@@ -3,3 +3,4 @@ pub mod Pairs
 pub mod Groups
 pub mod Answers
 pub mod Round
+pub mod Was

@@ -27,9 +27,10 @@ use Rattle.sheet.specs.Sheet.{sheetText}
 use Rattle.sheet_out.specs.declared.Written.{Written}
 use Rattle.sheet_out.specs.Written.{Sheet, text, none, ofChoices, sheetOf, fits, writtenOf, textLeft}
 use Rattle.sheet_in.specs.declared.ReadSheet.{ReadSheet}
-use Rattle.sheet_in.specs.Parsed.{Parsed, sheet, faulty, parsed, fits as roomy, readOf, tableLeft}
+use Rattle.sheet_in.specs.Parsed.{Parsed, sheet, parsed, readOf, tableLeft}
 use Rattle.sheet_in.proofs.Answers.{taken}
 use Rattle.sheet_in.proofs.Round.{written-read, read-written}
+use Rattle.sheet_in.proofs.Was.{read-was}
 
 -- ---- the choices and their numbers
 
@@ -148,23 +149,6 @@ words-left p old ws e z room = rw (e, ← z) (kept ws old room)
 
 bytes-left : (x : Sheet) (out s : List ℕ) {n : ℕ} → x ≡ text s → length s ≡ n → length s ≤ length out → take n (textLeft x out) ≡ s
 bytes-left x out s e z room = rw (e, ← z) (kept s out room)
-
-record ReadWas (p : Parsed) (long h d n : ℕ) : Type 0 where
-  words : List ℕ
-  is : p ≡ sheet h d words
-  many : length words ≡ n
-  room : length words ≤ long
-
-read-was : (p : Parsed) (long : ℕ) {h d n : ℕ} → readOf p long ≡ ReadSheet.Read h d n → ReadWas p long h d n
-read-was (faulty l) long e = absurd (let o : _≡_ {A = ℕ} 0 1 = cc in omega arith)
-read-was (sheet h′ d′ ws) long {h} {d} {n} e = by (leb (length ws) long) refl e
-  where
-    by : (b : Bool) → leb (length ws) long ≡ b → roomy b h′ d′ (length ws) ≡ ReadSheet.Read h d n → ReadWas (sheet h′ d′ ws) long h d n
-    by false q e = absurd (let o : _≡_ {A = ℕ} 0 1 = cc in omega arith)
-    by true q e =
-        let x : h′ ≡ h = cc in
-        let y : d′ ≡ d = cc in
-        record { words = ws; is = rw (x, y); many = cc; room = leb-true (length ws) long q }
 
 -- Where reading s into a table answers h, d and n, writing that table's first n words with h and d into a text that is long enough gives s.
 pub sheet-trip : (s old out : List ℕ) (h d n : ℕ) → readOf (parsed s) (length old) ≡ ReadSheet.Read h d n → length s ≤ length out

@@ -1,5 +1,5 @@
 -- What was read lies in the table.
-use Rattle.encode.proofs.Within.{read-most}
+use Rattle.sheet_in.proofs.Was.{read-most}
 use Rattle.sheet_in.specs.Parsed.{parsed}
 use lib.Seq.{length-take-le}
 use mathlib.Core.Path.{sym, _∙_}
