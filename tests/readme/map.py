@@ -13,5 +13,5 @@ row = dict(drawn)
 faults = [f'{name} is drawn {sum(name == one for one, _ in drawn)} times' for name in needs if sum(name == one for one, _ in drawn) != 1]
 faults += [f'{name} builds on {below}, which is not drawn below it' for name, at in drawn if at < last
            for below in needs[name] & set(row) if not at < row[below] < last]
-print(*faults, sep='\n')
+print(*faults, sep='\n', end='\n' if faults else '')
 sys.exit(len(faults) > 0)
