@@ -2,7 +2,7 @@
 
 use crate::call_damage::DAMAGES;
 use crate::calls::{needed, Call, MARGIN, MOST_GIVEN, MOST_LENT};
-use crate::cases::{input, Program};
+use crate::cases::{input, Program, SIZED};
 use crate::made::*;
 use crate::programs::choice_numbers;
 use crate::random::Random;
@@ -15,16 +15,16 @@ pub struct Case {
     pub kinds: Vec<&'static str>,
 }
 
-const RIGHT: [(&str, Sizes); 8] = [
-    ("small", SMALL),
-    ("small, with pairs", PAIRED),
-    ("middling", MIDDLING),
-    ("64 boxes", MOST_BOXES),
-    ("256 pairs", MOST_PAIRS),
-    ("16 values", MOST_VALUES),
-    ("64 boxes and 256 pairs", MOST_OF_ALL),
-    ("one box, one or two values", LEAST),
-];
+/// How many kinds of right tables there are: those of the programs, and small ones that all have pairs, which come second.
+const RIGHT: usize = SIZED.len() + 1;
+
+fn right(kind: usize) -> (&'static str, Sizes) {
+    match kind {
+        0 => SIZED[0],
+        1 => ("small, with pairs", PAIRED),
+        _ => SIZED[kind - 1],
+    }
+}
 
 /// 64 boxes of 16 values and 256 pairs: no table is longer, and with none allowed none has more clauses.
 fn largest(random: &mut Random) -> Sheet {
@@ -45,6 +45,15 @@ fn largest(random: &mut Random) -> Sheet {
     });
     let table = Table { pairs: pairs.collect::<Vec<Pair>>(), domains: vec![16; 64] };
     Sheet { hard: random.pick(&HARDS).0, side: random.pick(&SIDES).0, table }
+}
+
+/// Another length: shorter, with one entry more, or with many.
+fn with_other_length<T: Clone>(random: &mut Random, entries: &mut Vec<T>, one: T, many: T) {
+    match random.below(3) {
+        0 => entries.truncate(random.below(entries.len())),
+        1 => entries.push(one),
+        _ => entries.extend(vec![many; random.between(1, 40)]),
+    }
 }
 
 /// A plan of the table, or one that is wrong.
@@ -70,11 +79,7 @@ fn plan_for(random: &mut Random, table: &Table) -> (&'static str, Vec<u32>) {
         plan[at] = 0;
     }
     if kind.starts_with("plan") {
-        match random.below(3) {
-            0 => plan.truncate(random.below(plan.len())),
-            1 => plan.push(1),
-            _ => plan.extend(vec![1; random.between(1, 40)]),
-        }
+        with_other_length(random, &mut plan, 1, 1);
     }
     (kind, plan)
 }
@@ -113,29 +118,26 @@ fn list_for(random: &mut Random, sheet: &Sheet) -> (&'static str, Vec<u8>) {
         entries[at] = *random.pick(&[2, 2, 2, 3, 48, 49, 128, 255]);
     }
     if kind.starts_with("list") {
-        match random.below(3) {
-            0 => entries.truncate(random.below(entries.len())),
-            1 => entries.push(0),
-            _ => entries.extend(vec![1; random.between(1, 40)]),
-        }
+        with_other_length(random, &mut entries, 0, 1);
     }
     (kind, entries)
 }
 
 /// The words of a table, right or damaged, with its choices: the sheet is that before the damage.
 fn words_for(random: &mut Random, index: usize) -> (&'static str, Sheet, Vec<u32>) {
-    let kind = index % (RIGHT.len() + 1 + DAMAGES.len());
-    if kind < RIGHT.len() {
-        let made = sheet(random, &RIGHT[kind].1);
+    let kind = index % (RIGHT + 1 + DAMAGES.len());
+    if kind < RIGHT {
+        let (name, sizes) = right(kind);
+        let made = sheet(random, &sizes);
         let words = words_of(&made.table);
-        return (RIGHT[kind].0, made, words);
+        return (name, made, words);
     }
-    if kind == RIGHT.len() {
+    if kind == RIGHT {
         let made = largest(random);
         let words = words_of(&made.table);
         return ("the largest", made, words);
     }
-    let (name, damage) = DAMAGES[kind - RIGHT.len() - 1];
+    let (name, damage) = DAMAGES[kind - RIGHT - 1];
     let made = if random.one_in(8) {
         largest(random)
     } else {

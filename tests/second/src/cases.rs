@@ -20,7 +20,7 @@ pub struct Case {
 }
 
 /// Inputs that are right.
-const SIZED: [(&str, Sizes); 7] = [
+pub const SIZED: [(&str, Sizes); 7] = [
     ("small", SMALL),
     ("middling", MIDDLING),
     ("64 boxes", MOST_BOXES),

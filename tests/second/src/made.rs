@@ -8,6 +8,7 @@ use crate::sheet::{write, Sheet};
 use crate::table::{words_of, Hard, Pair, Side, Table, HARDS, SIDES};
 
 /// Numbers of boxes, values and pairs: least and most.
+#[derive(Clone, Copy)]
 pub struct Sizes {
     pub boxes: (usize, usize),
     pub values: (usize, usize),
