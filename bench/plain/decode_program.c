@@ -22,11 +22,4 @@ static uint64_t decode(size_t length)
     return WICKCOLLAR_DONE;
 }
 
-int main(void)
-{
-    size_t length = read_input(input);
-    uint64_t refusal = length > LONGEST ? refused(9, 0) : decode(length);
-    if (refusal != WICKCOLLAR_DONE)
-        print_refusal(refusal);
-    return 0;
-}
+int main(void) { return run(input, decode); }

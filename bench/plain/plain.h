@@ -73,8 +73,7 @@ uint64_t plain_write_wcnf(const uint32_t *words, size_t words_length, uint32_t h
 
 /* program.c: what the two programs share. */
 enum { LONGEST = 65536 };
-size_t read_input(uint8_t *input);
+int run(uint8_t *input, uint64_t (*job)(size_t length));
 void print_text(struct text *t);
-void print_refusal(uint64_t refusal);
 
 #endif
