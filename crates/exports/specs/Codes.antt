@@ -4,7 +4,7 @@ use mathlib.Core.Path.{_≡_}
 use mathlib.Core.List.{List}
 use Rattle.refusal.specs.Refusals.{Says, gives, refuses}
 
--- 0 for a success; else the refusal's number in the top byte and its place in the seven bytes below, which hold every place that there is
+-- 0 for a success; else the refusal's number in the top byte and its place in the seven bytes below, at most what these hold
 abbrev pub codeOf : Says → ℕ
 codeOf (gives vs) = 0
 codeOf (refuses number place) = number * 2 ^ 56 + min place (2 ^ 56 - 1)
