@@ -4,6 +4,15 @@ use borrow.Author.Needs.{needs}
 use Rattle.calls.proofs.show_call.Statement.{statement}
 use Rattle.calls.proofs.show_call.Tie as tie
 
+-- the places after the two calls, from the last one
+abbrev called : tie.After-slice-known12 → tie.After-call-on-given
+called c =
+    c .before .before .before .before .before .before .before .before .before .before .before .before
+    .before .before .before .before .before .before .before .before .before .before .before
+
+abbrev filled : tie.After-call-on-given → tie.After-fill
+filled c = c .before .before .before .before .before .before .before .before .before .before .before .before .before .before .before .before
+
 fill-requires : tie.Need-fill-requires
 fill-requires c κs = tt
 
@@ -18,33 +27,27 @@ say-requires-2 c κs = tt
 
 same-length : tie.Need-same-length
 same-length c =
-    let called = c .before .before .before .before .before .before .before .before .before .before .before .before .before .before .before .before .before .before .before .before .before .before .before in
-    called .call-on-given .kept .1 .1 .1 .1 .0 ∙ called .before .before .before .before .before .before .before .before .before .before .before .before .before .before .before .before .fill .kept .1 .0
+    called c .call-on-given .kept .1 .1 .1 .1 .0 ∙ filled (called c) .fill .kept .1 .0
 
 same-length-2 : tie.Need-same-length-2
 same-length-2 c =
-    let called = c .before .before .before .before .before .before .before .before .before .before .before .before .before .before .before .before .before .before .before .before .before .before .before in
-    called .call-on-given .kept .1 .1 .1 .1 .1 .0 ∙ called .before .before .before .before .before .before .before .before .before .before .before .before .before .before .before .before .fill .kept .1 .1 .0
+    called c .call-on-given .kept .1 .1 .1 .1 .1 .0 ∙ filled (called c) .fill .kept .1 .1 .0
 
 same-length-3 : tie.Need-same-length-3
 same-length-3 c =
-    let called = c .before .before .before .before .before .before .before .before .before .before .before .before .before .before .before .before .before .before .before .before .before .before .before in
-    called .call-on-given .kept .1 .1 .1 .1 .1 .1 .0 ∙ called .before .before .before .before .before .before .before .before .before .before .before .before .before .before .before .before .fill .kept .1 .1 .1 .0
+    called c .call-on-given .kept .1 .1 .1 .1 .1 .1 .0 ∙ filled (called c) .fill .kept .1 .1 .1 .0
 
 same-length-4 : tie.Need-same-length-4
 same-length-4 c =
-    let called = c .before .before .before .before .before .before .before .before .before .before .before .before .before .before .before .before .before .before .before .before .before .before .before in
-    called .call-on-given .kept .1 .1 .1 .1 .1 .1 .1 .0 ∙ called .before .before .before .before .before .before .before .before .before .before .before .before .before .before .before .before .fill .kept .1 .1 .1 .1 .0
+    called c .call-on-given .kept .1 .1 .1 .1 .1 .1 .1 .0 ∙ filled (called c) .fill .kept .1 .1 .1 .1 .0
 
 same-length-5 : tie.Need-same-length-5
 same-length-5 c =
-    let called = c .before .before .before .before .before .before .before .before .before .before .before .before .before .before .before .before .before .before .before .before .before .before .before in
-    called .call-on-given .kept .1 .1 .1 .1 .1 .1 .1 .1 .0 ∙ called .before .before .before .before .before .before .before .before .before .before .before .before .before .before .before .before .fill .kept .1 .1 .1 .1 .1 .0
+    called c .call-on-given .kept .1 .1 .1 .1 .1 .1 .1 .1 .0 ∙ filled (called c) .fill .kept .1 .1 .1 .1 .1 .0
 
 same-length-6 : tie.Need-same-length-6
 same-length-6 c =
-    let called = c .before .before .before .before .before .before .before .before .before .before .before .before .before .before .before .before .before .before .before .before .before .before .before in
-    called .call-on-given .kept .1 .1 .1 .1 .1 .1 .1 .1 .1 .0 ∙ called .before .before .before .before .before .before .before .before .before .before .before .before .before .before .before .before .fill .kept .1 .1 .1 .1 .1 .1 .0
+    called c .call-on-given .kept .1 .1 .1 .1 .1 .1 .1 .1 .1 .0 ∙ filled (called c) .fill .kept .1 .1 .1 .1 .1 .1 .0
 
 same-length-7 : tie.Need-same-length-7
 same-length-7 c = search needs
