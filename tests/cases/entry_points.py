@@ -1,0 +1,68 @@
+"""The library's entry points for a script: each call is run by the proved program `calls`, whose crate says what its bytes are."""
+
+import struct
+import subprocess
+
+NAMES = ("check", "cost", "exact_lengths", "scratch_lengths", "decode", "make_list", "read_sheet", "write_sheet", "read_list", "encode", "write_wcnf")
+# the lent buffers in the order in which their lengths and their entries are told, and the bytes of an entry
+BUFFERS = {"first": 5, "second": 5, "literals": 5, "weights": 8, "table": 4, "text": 1}
+MARGIN = 8  # entries past each buffer that are shown too
+SMALL = {"words": 1024, "plan": 128, "given": 16384, "first": 1024, "second": 1024, "literals": 16384, "weights": 8192, "table": 1024, "text": 131072}
+
+
+class Call:
+    """An entry point, what it is given, and the lengths of the buffers that it is lent, by their names."""
+
+    def __init__(self, name, words=(), hard=0, side=0, plan=(), given=b"", **lent):
+        self.name, self.hard, self.side = name, hard, side
+        self.words, self.plan, self.given = list(words), list(plan), bytes(given)
+        self.lent = {buffer: lent.pop(buffer, 0) for buffer in BUFFERS}
+        if lent:
+            raise TypeError(f"no such buffer: {lent}")
+
+    def input(self):
+        long = {"words": len(self.words), "plan": len(self.plan), "given": len(self.given)}
+        small = all(count <= SMALL[name] for name, count in long.items())
+        small = small and all(count + MARGIN <= SMALL[name] for name, count in self.lent.items())
+        numbers = [NAMES.index(self.name) + 1, self.hard, self.side, 9, *long.values(), *self.lent.values()]
+        numbers += self.words + self.plan
+        return bytes([1 if small else 2]) + struct.pack(f"<{len(numbers)}I", *numbers) + self.given
+
+
+class Answer:
+    """The refusal's number and place, or the values of a success; each lent buffer, without its margin, as the call left it."""
+
+    def __init__(self, call, read):
+        number, *values = struct.unpack("<6Q", read(48))
+        if number == 255:
+            raise ValueError(f"no room for the case, or no such entry point: {call.name}")
+        self.refused = (number, values[0]) if number else None
+        self.values = values
+        self.left = {}
+        for buffer, width in BUFFERS.items():
+            count = call.lent[buffer]
+            entries = read(width * (count + MARGIN))
+            parts = [entries[width * at : width * (at + 1)] for at in range(count)]
+            if width == 5:
+                self.left[buffer] = [int.from_bytes(one[:4], "little") * (-1 if one[4] else 1) for one in parts]
+            else:
+                self.left[buffer] = [int.from_bytes(one, "little") for one in parts]
+
+
+def answers(calls):
+    """The answers of a list of calls, in one run of the program."""
+    given = b"".join(call.input() for call in calls)
+    ran = subprocess.run(["tools/run", "calls"], input=given, stdout=subprocess.PIPE, check=True)
+    output, at = ran.stdout, 0
+
+    def read(count):
+        nonlocal at
+        at += count
+        if at > len(output):
+            raise ValueError("the program calls ended before its last case")
+        return output[at - count : at]
+
+    found = [Answer(call, read) for call in calls]
+    if at != len(output):
+        raise ValueError("the program calls wrote more than its cases ask for")
+    return found
