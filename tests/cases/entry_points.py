@@ -7,6 +7,7 @@ NAMES = ("check", "cost", "exact_lengths", "scratch_lengths", "decode", "make_li
 # the lent buffers in the order in which their lengths and their entries are told, and the bytes of an entry
 BUFFERS = {"first": 5, "second": 5, "literals": 5, "weights": 8, "table": 4, "text": 1}
 MARGIN = 8  # entries past each buffer that are shown too
+SEED = 9  # what the first entry of a buffer is lent as follows from it, and so do the others
 SMALL = {"words": 1024, "plan": 128, "given": 16384, "first": 1024, "second": 1024, "literals": 16384, "weights": 8192, "table": 1024, "text": 131072}
 
 
@@ -24,45 +25,61 @@ class Call:
         long = {"words": len(self.words), "plan": len(self.plan), "given": len(self.given)}
         small = all(count <= SMALL[name] for name, count in long.items())
         small = small and all(count + MARGIN <= SMALL[name] for name, count in self.lent.items())
-        numbers = [NAMES.index(self.name) + 1, self.hard, self.side, 9, *long.values(), *self.lent.values()]
+        numbers = [NAMES.index(self.name) + 1, self.hard, self.side, SEED, *long.values(), *self.lent.values()]
         numbers += self.words + self.plan
         return bytes([1 if small else 2]) + struct.pack(f"<{len(numbers)}I", *numbers) + self.given
+
+
+def entry_as_lent(buffer, at):
+    """What stands at an index of a buffer before a call."""
+    pattern = (SEED + at * 40503) % 2000000011
+    return {"weights": pattern * 1000003, "text": pattern % 251}.get(buffer, pattern)
 
 
 class Answer:
     """The refusal's number and place, or the values of a success; each lent buffer, without its margin, as the call left it."""
 
-    def __init__(self, call, read):
-        number, *values = struct.unpack("<6Q", read(48))
-        if number == 255:
-            raise ValueError(f"no room for the case, or no such entry point: {call.name}")
-        self.refused = (number, values[0]) if number else None
-        self.values = values
-        self.left = {}
-        for buffer, width in BUFFERS.items():
-            count = call.lent[buffer]
-            entries = read(width * (count + MARGIN))
-            parts = [entries[width * at : width * (at + 1)] for at in range(count)]
-            if width == 5:
-                self.left[buffer] = [int.from_bytes(one[:4], "little") * (-1 if one[4] else 1) for one in parts]
-            else:
-                self.left[buffer] = [int.from_bytes(one, "little") for one in parts]
+    def __init__(self, refused, values, left):
+        self.refused, self.values, self.left = refused, values, left
+
+    def is_as_lent(self, buffer, at):
+        return self.left[buffer][at] == entry_as_lent(buffer, at)
+
+    def told(self, success):
+        """The refusal as the programs print it, or what `success` makes of the values."""
+        return "refused={} place={}".format(*self.refused) if self.refused else success(*self.values)
 
 
-def answers(calls):
-    """The answers of a list of calls, in one run of the program."""
+def read_answer(call, read):
+    number, *values = struct.unpack("<6Q", read(48))
+    if number == 255:
+        raise ValueError(f"no room for the case, or no such entry point: {call.name}")
+    left = {}
+    for buffer, width in BUFFERS.items():
+        count = call.lent[buffer]
+        entries = read(width * (count + MARGIN))
+        parts = [entries[width * at : width * (at + 1)] for at in range(count)]
+        if width == 5:
+            left[buffer] = [int.from_bytes(one[:4], "little") * (-1 if one[4] else 1) for one in parts]
+        else:
+            left[buffer] = [int.from_bytes(one, "little") for one in parts]
+    return Answer((number, values[0]) if number else None, values, left)
+
+
+def answers(calls, program=("tools/run", "calls")):
+    """The answers of a list of calls, in one run of a program: the proved one, or one that takes and writes the same bytes."""
     given = b"".join(call.input() for call in calls)
-    ran = subprocess.run(["tools/run", "calls"], input=given, stdout=subprocess.PIPE, check=True)
+    ran = subprocess.run(program, input=given, stdout=subprocess.PIPE, check=True)
     output, at = ran.stdout, 0
 
     def read(count):
         nonlocal at
         at += count
         if at > len(output):
-            raise ValueError("the program calls ended before its last case")
+            raise ValueError("the program ended before its last case")
         return output[at - count : at]
 
-    found = [Answer(call, read) for call in calls]
+    found = [read_answer(call, read) for call in calls]
     if at != len(output):
-        raise ValueError("the program calls wrote more than its cases ask for")
+        raise ValueError("the program wrote more than its cases ask for")
     return found
