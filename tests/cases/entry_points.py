@@ -42,8 +42,10 @@ class Answer:
     def __init__(self, refused, values, left):
         self.refused, self.values, self.left = refused, values, left
 
-    def is_as_lent(self, buffer, at):
-        return self.left[buffer][at] == entry_as_lent(buffer, at)
+    def is_as_lent(self, buffer, since=0):
+        """Whether the buffer's entries from an index on are what they were before the call."""
+        entries = self.left[buffer]
+        return all(entries[at] == entry_as_lent(buffer, at) for at in range(since, len(entries)))
 
     def told(self, success):
         """The refusal as the programs print it, or what `success` makes of the values."""
@@ -83,3 +85,11 @@ def answers(calls, program=("tools/run", "calls")):
     if at != len(output):
         raise ValueError("the program wrote more than its cases ask for")
     return found
+
+
+def laid_out(items, answers):
+    """The lines of a list in which each item is a line, or a call with what makes lines of its answer: one run of the program for all of them."""
+    items = list(items)
+    given = iter(answers([item[0] for item in items if not isinstance(item, str)]))
+    for item in items:
+        yield from [item] if isinstance(item, str) else item[1](next(given))

@@ -1,6 +1,6 @@
 """The check of a table and the cost of a plan, at their edges."""
 
-from entry_points import Call
+from entry_points import Call, laid_out
 
 EXAMPLE = [2, 1, 2, 3, 1, 2, 7, 6, 0]  # document 01's: 2 and 3 values, weight 7
 CHECKED = [
@@ -51,29 +51,28 @@ def most():
     return [64, 256] + [1] * 64 + sum(pairs, [])
 
 
+def checked(name, words):
+    return Call("check", words), lambda answer: [f"{name}: " + answer.told(lambda boxes, pairs, *_: f"boxes={boxes} pairs={pairs}")]
+
+
+def costed(name, words, plan):
+    return Call("cost", words, plan=plan), lambda answer: [f"{name}: " + answer.told(lambda cost, *_: f"cost={cost}")]
+
+
 def cases():
-    """Each call under its name."""
     for count in range(12):  # cut at each length, a word too few each time; then with some too many
-        yield f"first {count} words", Call("check", (EXAMPLE + [0, 0])[:count])
-    for name, words in CHECKED:
-        yield name, Call("check", words)
-    for name, words, plan in COSTED:
-        yield name, Call("cost", words, plan=plan)
+        yield checked(f"first {count} words", (EXAMPLE + [0, 0])[:count])
+    for case in CHECKED:
+        yield checked(*case)
+    for case in COSTED:
+        yield costed(*case)
     words = most()
-    yield "64 boxes and 256 pairs", Call("check", words)
-    yield "half of them broken", Call("cost", words, plan=[1] * 64)
-    yield "first 1089 words", Call("check", words[:1089])
-    yield "257 pairs of that", Call("check", [64, 257] + words[2:])
-    yield "65 boxes of that", Call("check", [65, 256] + words[2:])
-
-
-def shown(call, answer):
-    if call.name == "check":
-        return answer.told(lambda boxes, pairs, *_: f"boxes={boxes} pairs={pairs}")
-    return answer.told(lambda cost, *_: f"cost={cost}")
+    yield checked("64 boxes and 256 pairs", words)
+    yield costed("half of them broken", words, [1] * 64)
+    yield checked("first 1089 words", words[:1089])
+    yield checked("257 pairs of that", [64, 257] + words[2:])
+    yield checked("65 boxes of that", [65, 256] + words[2:])
 
 
 def lines(answers):
-    names, calls = zip(*cases())
-    for name, call, answer in zip(names, calls, answers(calls)):
-        yield f"{name}: {shown(call, answer)}"
+    return laid_out(cases(), answers)
