@@ -26,17 +26,17 @@ fn plans(table: &Table) -> Vec<Vec<u32>> {
 
 /// What every list of one encoding gives.
 #[derive(Debug, Default, PartialEq, Eq)]
-pub struct Found {
-    pub lists: usize,
-    pub accepted: usize,
-    pub plans: usize,
-    pub least: u64,
-    pub disagreements: usize,
+struct Found {
+    lists: usize,
+    accepted: usize,
+    plans: usize,
+    least: u64,
+    disagreements: usize,
 }
 
 /// Holds the decoder to the clauses on every list: it accepts exactly those that keep the hard clauses, and its cost is
 /// the weight of the soft clauses that the list falsifies.
-pub fn every_list(table: &Table, hard: u32, side: u32) -> Found {
+fn every_list(table: &Table, hard: u32, side: u32) -> Found {
     let words = words_of(table);
     let After { answer, literals, weights, .. } = encoded(&words, hard, side, [200, 200, 4000, 1000]);
     let (entries, count) = answer.expect("room enough");

@@ -11,7 +11,7 @@ use crate::table::{check, Hard, Side};
 use crate::tally::Tally;
 
 /// "Same table unless said": the table of the sheet under "Programs".
-pub const EXAMPLE: [u32; 9] = [2, 1, 2, 3, 1, 2, 7, 6, 0];
+const EXAMPLE: [u32; 9] = [2, 1, 2, 3, 1, 2, 7, 6, 0];
 
 const SHEET: &str = "hard=standard\nside=first\nboxes=2\nvalues=2\nvalues=3\npairs=1\nfirst=1\nsecond=2\nweight=7\n\
                      allow=011\nallow=000\n";

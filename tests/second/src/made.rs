@@ -27,7 +27,7 @@ pub const LEAST: Sizes = Sizes { boxes: (1, 1), values: (1, 2), pairs: (0, 0) };
 /// wide enough that no more than 256 pairs fill the programs' input
 const FILLING: Sizes = Sizes { boxes: (64, 64), values: (13, 16), pairs: (0, 0) };
 
-pub fn weight(random: &mut Random) -> u32 {
+fn weight(random: &mut Random) -> u32 {
     match random.below(6) {
         0 => 1,
         1 => 1_000_000,

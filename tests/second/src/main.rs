@@ -18,9 +18,6 @@ mod programs;
 mod random;
 mod refusal;
 mod sheet;
-mod source;
-mod stored;
-mod stored_paper;
 mod table;
 mod tally;
 
@@ -28,7 +25,6 @@ use std::io::{Read, Write};
 use tally::Tally;
 
 const USAGE: &str = "second selftest
-second stored                                the stored outputs of the proved programs, from the repository's top folder
 second encode | second decode                the two programs, from standard input to standard output
 second gen SEED COUNT [FOLDER]               the cases for each program: a line each, or the files in FOLDER
 second compare ENCODE DECODE SEED [COUNT]    runs two commands on these cases
@@ -78,11 +74,6 @@ fn main() {
             let mut tally = Tally::default();
             examples::all(&mut tally);
             brute::all(&mut tally, 1, 60);
-            tally.close()
-        }
-        (Some("stored"), 1) => {
-            let mut tally = Tally::default();
-            stored::all(&mut tally);
             tally.close()
         }
         (Some("encode"), 1) => done(through(programs::encode)),
