@@ -20,3 +20,8 @@ def numbers(entries):
 def as_lent(answers, **lent):
     """What stands in lent buffers before a call: check uses none of them, so it leaves them as they were."""
     return answers([Call("check", **lent)])[0].left
+
+
+def changed(answer, before):
+    """How many entries of the lent buffers are no longer what they were."""
+    return sum(now != then for buffer, left in answer.left.items() for now, then in zip(left, before[buffer]))
