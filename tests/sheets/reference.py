@@ -1,59 +1,66 @@
-"""The sheet of document 01 once more, written from its text alone and apart from the proved code: what two programs must print.
+"""The sheet of document 01 once more, written from its text alone and apart from the proved code: what the entry points of sheets must answer.
 
-reference.py PROGRAM prints the lines that crates/PROGRAM/stdout is held to, for damage_cases and list_cases. The texts of the
-cases are taken from the program's source; what they are judged to be is this file's own. Nothing here is proved; it is there to
-disagree.
+reference.py GROUP prints the lines that tests/cases/GROUP.lines is held to, for sheets, damaged and lists. Cases and printing are those of
+tests/cases/GROUP.py; what is answered is this file's own. Nothing here is proved; it is there to disagree.
 """
-import ast
+import importlib
 import re
 import sys
 
+HARDS = ["standard", "regular"]
 SIDES = ["direct", "support", "first", "literals", "score"]
 
 
-class Faulty(Exception):
-    """13 at a line, from 1."""
+class Refused(Exception):
+    """A number of document 01's table of refusals, and its place."""
 
 
 class Lines:
     def __init__(self, text):
         self.rest, self.number = text, 0
 
+    def fault(self):
+        raise Refused(13, self.number)
+
     def take(self, key):
         """What follows the key in the next line; a line has to end in a line feed."""
         self.number += 1
         line, feed, rest = self.rest.partition(b"\n")
         if not feed or not line.startswith(key + b"="):
-            raise Faulty(self.number)
+            self.fault()
         self.rest = rest
         return line[len(key) + 1 :]
 
     def word(self, key, words):
         value = self.take(key)
         if value not in [w.encode() for w in words]:
-            raise Faulty(self.number)
+            self.fault()
         return words.index(value.decode())
 
     def decimal(self, key, low, high):
         value = self.take(key)
         if not re.fullmatch(rb"0|[1-9][0-9]*", value) or not low <= int(value) <= high:
-            raise Faulty(self.number)
+            self.fault()
         return int(value)
 
-    def row(self, key, width):
+    def bits(self, key, width):
         value = self.take(key)
-        if not re.fullmatch(rb"[01]{%d}" % width, value):
-            raise Faulty(self.number)
-        return sum(1 << j for j, c in enumerate(value) if c == ord("1"))
+        if not re.fullmatch(rb"[01]" + width, value):
+            self.fault()
+        return [c - ord("0") for c in value]
+
+    def row(self, key, width):
+        return sum(bit << j for j, bit in enumerate(self.bits(key, b"{%d}" % width)))
 
     def end(self):
+        self.number += 1
         if self.rest:
-            raise Faulty(self.number + 1)
+            self.fault()
 
 
 def sheet_of(lines):
     """Hard part, side and words of the sheet that the lines begin with."""
-    hard = lines.word(b"hard", ["standard", "regular"])
+    hard = lines.word(b"hard", HARDS)
     side = lines.word(b"side", SIDES) + 1
     n = lines.decimal(b"boxes", 1, 64)
     sizes = [lines.decimal(b"values", 1, 16) for _ in range(n)]
@@ -63,92 +70,106 @@ def sheet_of(lines):
         first = lines.decimal(b"first", 1, n)
         second = lines.decimal(b"second", 1, n)
         if second == first:
-            raise Faulty(lines.number)
+            lines.fault()
         weight = lines.decimal(b"weight", 1, 1000000)
         words += [first, second, weight]
         words += [lines.row(b"allow", sizes[second - 1]) for _ in range(sizes[first - 1])]
     return hard, side, words
 
 
-def outcome(text):
-    try:
-        lines = Lines(text)
+class Table:
+    """A table's words, taken from the left."""
+
+    def __init__(self, words):
+        self.words, self.at = words, 0
+
+    def take(self, number, low, high, but=None):
+        """The next word, refused with this number where it is out of range."""
+        at, self.at = self.at, self.at + 1
+        if at >= len(self.words):
+            raise Refused(1, at)
+        if not low <= self.words[at] <= high or self.words[at] == but:
+            raise Refused(number, at)
+        return self.words[at]
+
+    def end(self):
+        if self.at < len(self.words):
+            raise Refused(2, self.at)
+
+
+def sheet_text(hard, side, words):
+    """The sheet of a table, a line for each word."""
+    if not 0 <= hard <= 1 or not 1 <= side <= 5:
+        raise Refused(8, 0)
+    table = Table(words)
+    n, p = table.take(3, 1, 64), table.take(3, 0, 256)
+    sizes = [table.take(4, 1, 16) for _ in range(n)]
+    lines = [f"hard={HARDS[hard]}", f"side={SIDES[side - 1]}", f"boxes={n}"] + [f"values={size}" for size in sizes] + [f"pairs={p}"]
+    for _ in range(p):
+        first = table.take(5, 1, n)
+        second = table.take(5, 1, n, first)
+        lines += [f"first={first}", f"second={second}", f"weight={table.take(6, 1, 1000000)}"]
+        width = sizes[second - 1]
+        masks = [table.take(7, 0, 2**width - 1) for _ in range(sizes[first - 1])]
+        lines += ["allow=" + "".join(str(mask >> j & 1) for j in range(width)) for mask in masks]
+    table.end()
+    return "".join(line + "\n" for line in lines).encode()
+
+
+class Answer:
+    """What an entry point answers, and what it leaves in the buffers that it is lent."""
+
+    def __init__(self, call):
+        self.refused, self.values = None, []
+        self.left = {buffer: [at % 251 for at in range(count)] for buffer, count in call.lent.items()}
+        try:
+            ENTRY_POINTS[call.name](self, call)
+        except Refused as refusal:
+            self.refused = refusal.args
+
+    def write(self, **entries):
+        """Into the buffers of these names, in the order in which they are judged; a refusal writes nothing."""
+        for buffer, written in entries.items():
+            if len(written) > len(self.left[buffer]):
+                raise Refused(9, len(written))
+        for buffer, written in entries.items():
+            self.left[buffer][: len(written)] = written
+
+    def read_sheet(self, call):
+        lines = Lines(call.given)
         hard, side, words = sheet_of(lines)
         lines.end()
-        return "words=%d" % len(words)
-    except Faulty as fault:
-        return "refused=13 place=%d changed=0" % fault.args[0]
+        self.write(table=words)
+        self.values = [hard, side, len(words)]
 
-
-def listed(text, list_room, table_room):
-    """The same for a sheet with its list line, and buffers of these lengths."""
-    try:
-        lines = Lines(text)
+    def read_list(self, call):
+        lines = Lines(call.given)
         hard, side, words = sheet_of(lines)
-        value = lines.take(b"list")
-        if not re.fullmatch(rb"[01]*", value):
-            raise Faulty(lines.number)
+        entries = lines.bits(b"list", b"*")
         lines.end()
-    except Faulty as fault:
-        return "refused=13 place=%d changed=0" % fault.args[0]
-    sizes = words[2 : 2 + words[0]]
-    wanted = sum(sizes) + (sum(m - 1 for m in sizes) if hard == 1 else 0) + (words[1] if side == 2 else 0)
-    if len(value) != wanted:
-        return "refused=10 place=%d changed=0" % wanted
-    if len(value) > list_room:
-        return "refused=9 place=%d changed=0" % len(value)
-    if len(words) > table_room:
-        return "refused=9 place=%d changed=0" % len(words)
-    entries = " ".join(chr(c) for c in value)
-    return "hard part %d, side %d, words %s, list %s" % (hard, side, " ".join(map(str, words)), entries)
+        sizes = words[2 : 2 + words[0]]
+        wanted = sum(sizes) + (sum(m - 1 for m in sizes) if hard == 1 else 0) + (words[1] if side == 2 else 0)
+        if len(entries) != wanted:
+            raise Refused(10, wanted)
+        self.write(text=entries, table=words)
+        self.values = [hard, side, len(words), len(entries)]
+
+    def write_sheet(self, call):
+        text = sheet_text(call.hard, call.side, call.words)
+        self.write(text=text)
+        self.values = [len(text)]
+
+    def check(self, call):
+        """The groups ask for it to see the buffers as they are lent, and look at nothing else of its answer."""
 
 
-def runs(name, outcomes):
-    start = 0
-    for i in range(1, len(outcomes) + 1):
-        if i == len(outcomes) or outcomes[i] != outcomes[start]:
-            print("%s %d..%d: %s" % (name, start, i - 1, outcomes[start]))
-            start = i
+ENTRY_POINTS = {"read_sheet": Answer.read_sheet, "read_list": Answer.read_list, "write_sheet": Answer.write_sheet, "check": Answer.check}
 
 
-def changed(text, at, byte):
-    return text[:at] + bytes([byte]) + text[at + 1 :]
+def answers(calls):
+    return [Answer(call) for call in calls]
 
 
-def cases(path):
-    """The function, the name and the text of a program's cases, in its order."""
-    with open(path, encoding="utf-8") as source:
-        code = source.read()
-    literal = r'(b"(?:[^"\\]|\\.)*")'
-    for function, name, text in re.findall(r"\b(show\w*)\(\s*" + literal + r",\s*" + literal, code, re.S):
-        # a line that ends in a backslash goes on at the next one's first letter
-        name, text = (ast.literal_eval(re.sub(r"\\\n\s*", "", t)) for t in (name, text))
-        yield function, name.decode(), text
-
-
-def sheets_shown():
-    """The sheets of docs/SHEET.md."""
-    with open("docs/SHEET.md", encoding="utf-8") as page:
-        return [t.encode() for t in re.findall(r"^```sheet\n(.*?)^```", page.read(), re.S | re.M)]
-
-
-def damage_cases():
-    texts = list(cases("crates/damage_cases/src/slips.rt"))
-    example = texts[0][2]
-    runs("cut", [outcome(example[:n]) for n in range(len(example) + 1)])
-    spoilt = {ord("0"): ord("9"), ord("\n"): ord(" ")}
-    runs("spoilt", [outcome(changed(example, i, spoilt.get(b, ord("#")))) for i, b in enumerate(example)])
-    runs("raised", [outcome(changed(example, i, b + 1)) for i, b in enumerate(example)])
-    for _, name, text in texts:
-        print("%s: %s" % (name, outcome(text)))
-    if sheets_shown() != [text for _, name, text in texts if name.startswith("the sheet of ")]:
-        print("docs/SHEET.md shows other sheets than the program reads")
-
-
-def list_cases():
-    rooms = {"show": (16, 16), "show_short": (4, 8), "show_table_short": (5, 8)}
-    for function, name, text in cases("crates/list_cases/src/main.rt"):
-        print("%s: %s" % (name, listed(text, *rooms[function])))
-
-
-{"damage_cases": damage_cases, "list_cases": list_cases}[sys.argv[1]]()
+if __name__ == "__main__":
+    sys.path.insert(0, "tests/cases")
+    print(*importlib.import_module(sys.argv[1]).lines(answers), sep="\n")
