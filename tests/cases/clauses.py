@@ -42,7 +42,7 @@ def spaced(numbers):
 
 def first_entries(answer, buffers):
     """How the buffers begin: 9 for one that is as it was lent."""
-    return spaced(9 if answer.is_as_lent(buffer) else answer.left[buffer][0] for buffer in buffers)
+    return spaced(9 if all(answer.untouched(buffer)) else answer.left[buffer][0] for buffer in buffers)
 
 
 def clause_line(answer):

@@ -5,7 +5,7 @@ import itertools
 import re
 
 from entry_points import Call
-from sheet_lines import EXAMPLE, TOP, as_lent, changed, refusal
+from sheet_lines import EXAMPLE, TOP, told
 
 ONE = TOP + b"boxes=1\nvalues=1\n"
 TWO = TOP + b"boxes=2\nvalues=1\nvalues=1\n"
@@ -58,9 +58,8 @@ def damages():
 
 
 def outcomes(answers, texts):
-    before = as_lent(answers, table=128)
     for answer in answers([Call("read_sheet", given=text, table=128) for text in texts]):
-        yield f"{refusal(answer)} changed={changed(answer, before)}" if answer.refused else f"words={answer.values[2]}"
+        yield told(answer, lambda hard, side, words, *_: f"words={words}")
 
 
 def runs(name, found):

@@ -42,10 +42,9 @@ class Answer:
     def __init__(self, refused, values, left):
         self.refused, self.values, self.left = refused, values, left
 
-    def is_as_lent(self, buffer, since=0):
-        """Whether the buffer's entries from an index on are what they were before the call."""
-        entries = self.left[buffer]
-        return all(entries[at] == entry_as_lent(buffer, at) for at in range(since, len(entries)))
+    def untouched(self, buffer):
+        """For each entry of the buffer, whether it is what it was before the call."""
+        return [entry == entry_as_lent(buffer, at) for at, entry in enumerate(self.left[buffer])]
 
     def told(self, success):
         """The refusal as the programs print it, or what `success` makes of the values."""

@@ -1,7 +1,7 @@
 """Sheets with their list line, as the program decode is given them: what reading one answers, and what it leaves in the two lent buffers."""
 
 from entry_points import Call
-from sheet_lines import EXAMPLE, PAIR, as_lent, changed, numbers, refusal
+from sheet_lines import EXAMPLE, PAIR, numbers, told
 
 THRESHOLDS = b"hard=regular\nside=support\nboxes=1\nvalues=3\n"
 CASES = [
@@ -34,16 +34,15 @@ CASES = [
 SHORT = [("both buffers too short", 4), ("the table too short", 5)]
 
 
-def told(answer, before):
-    if answer.refused:
-        return f"{refusal(answer)} changed={changed(answer, before)}"
-    hard, side, words, entries = answer.values[:4]
-    table, text = numbers(answer.left["table"][:words]), numbers(answer.left["text"][:entries])
-    return f"hard part {hard}, side {side}, words {table}, list {text}"
+def shown(answer):
+    def read(hard, side, words, entries, _):
+        table, text = answer.left["table"][:words], answer.left["text"][:entries]
+        return f"hard part {hard}, side {side}, words {numbers(table)}, list {numbers(text)}"
+
+    return told(answer, read)
 
 
 def lines(answers):
-    before = as_lent(answers, table=16, text=16)
     calls = [Call("read_list", given=text, table=16, text=16) for _, text in CASES]
     calls += [Call("read_list", given=EXAMPLE + b"list=01100\n", table=8, text=room) for _, room in SHORT]
-    return [f"{name}: {told(answer, before)}" for (name, _), answer in zip(CASES + SHORT, answers(calls))]
+    return [f"{name}: {shown(answer)}" for (name, _), answer in zip(CASES + SHORT, answers(calls))]

@@ -2,7 +2,8 @@
 table there and back."""
 
 from entry_points import Call
-from sheet_lines import BOXES, EXAMPLE, PAIR, TOP, as_lent, numbers, refusal
+from sheet_lines import BOXES, EXAMPLE, PAIR, TOP, numbers
+from tables import EXAMPLE as WORDS
 
 DAMAGED = [
     ("no line", b""),
@@ -36,7 +37,6 @@ DAMAGED = [
         TOP + b"boxes=2\nvalues=2\nvalues=17\npairs=1\nfirst=9\nsecond=2\nweight=7\nallow=011\nallow=000\n",
     ),
 ]
-WORDS = [2, 1, 2, 3, 1, 2, 7, 6, 0]  # of the example
 NO_SHEETS = [
     ("hard part 2", WORDS, 2, 3),
     ("side 0, and a bad table", [0], 0, 0),
@@ -47,10 +47,7 @@ NO_SHEETS = [
 
 def read_line(name, answer):
     """What reading a sheet answers, with the words that it leaves."""
-    if answer.refused:
-        return f"{name}: {refusal(answer)}"
-    hard, side, count = answer.values[:3]
-    return f"{name}: hard part {hard}, side {side}, words {numbers(answer.left['table'][:count])}"
+    return f"{name}: " + answer.told(lambda hard, side, count, *_: f"hard part {hard}, side {side}, words {numbers(answer.left['table'][:count])}")
 
 
 def read_lines(answers, cases):
@@ -60,17 +57,16 @@ def read_lines(answers, cases):
 
 def written(answer):
     """The sheet, or the refusal."""
-    return refusal(answer) if answer.refused else bytes(answer.left["text"][: answer.values[0]]).decode("latin-1")
+    return answer.told(lambda count, *_: bytes(answer.left["text"][:count]).decode("latin-1"))
 
 
-def kept(left, before, mark):
+def marked(answer, buffer, mark):
     """The entries of a buffer, each that stands as it was lent as this mark."""
-    return [mark if now == then else now for now, then in zip(left, before)]
+    return [mark if same else entry for same, entry in zip(answer.untouched(buffer), answer.left[buffer])]
 
 
 def example_lines(answers):
     """The example there and back, and into buffers that are one entry too short."""
-    before = as_lent(answers, table=8, text=104)
     short, sheet, room = answers(
         [
             Call("read_sheet", given=EXAMPLE, table=8),
@@ -80,11 +76,11 @@ def example_lines(answers):
     )
     yield from read_lines(answers, [("the example", EXAMPLE)])
     yield read_line("the example into 8 words", short)
-    yield f"the table is left as it was: {numbers(kept(short.left['table'], before['table'], 5))}"
+    yield f"the table is left as it was: {numbers(marked(short, 'table', 5))}"
     yield "its sheet:"
     yield from written(sheet).splitlines()
     yield f"its sheet into 104 bytes: {written(room)}"
-    yield bytes(kept(room.left["text"], before["text"], ord("."))).decode("latin-1")
+    yield bytes(marked(room, "text", ord("."))).decode("latin-1")
 
 
 def no_sheet_lines(answers):

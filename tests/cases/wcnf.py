@@ -8,7 +8,7 @@ SHORT = [(3, 1, 1, 89), (3, 1, 1, 88), (5, 6, 8, 96), (5, 5, 7, 95), (5, 6, 7, 9
 
 
 def scratch_line(answer, buffer):
-    if answer.is_as_lent(buffer):
+    if all(answer.untouched(buffer)):
         return f"{buffer} as it was"
     return f"{buffer} dirty" if any(answer.left[buffer]) else f"{buffer} zero"
 
@@ -18,7 +18,7 @@ def shown(answer):
     text, count = answer.left["text"], 0 if answer.refused else answer.values[0]
     yield from answer.told(lambda *_: bytes(text[:count]).decode("ascii").removesuffix("\n")).split("\n")
     if count < len(text):
-        yield "then 9" if answer.is_as_lent("text", count) else "then something else"
+        yield "then 9" if all(answer.untouched("text")[count:]) else "then something else"
     yield scratch_line(answer, "first")
     yield scratch_line(answer, "second")
 

@@ -7,12 +7,9 @@ import pathlib
 import sys
 
 sys.path.insert(0, str(pathlib.Path(__file__).resolve().parent.parent / "cases"))
-import entry_points
+import apart
 import held
-
-
-class Refused(Exception):
-    """A refusal, by its number and its place."""
+from apart import Refused
 
 
 def table(words):
@@ -141,7 +138,7 @@ def true(clause, given):
     return any((given[abs(number) - 1] == 1) == (number > 0) for number in clause)
 
 
-def decode(words, hard, side, given, room):
+def decode(words, hard, side, given):
     """The plan and its cost. The cost is what the list falsifies: that it is the plan's is asserted."""
     sizes, pairs = table(words)
     count, x, r, _ = variables(sizes, pairs, hard, side)
@@ -153,7 +150,6 @@ def decode(words, hard, side, given, room):
     for b, m in enumerate(sizes, 1):
         if not all(true(clause, given) for clause in (regular(x, r, b, m) if hard else standard(x, b, m))):
             raise Refused(12, b)
-    need(room, len(sizes))
     plan = [j for b, m in enumerate(sizes, 1) for j in range(1, m + 1) if given[x[b, j] - 1] == 1]
     cost = sum(weight for weight, clause in encode(words, hard, side)[1] if not true(clause, given))
     broken = [pair for pair in pairs if not pair[3][plan[pair[0] - 1] - 1] >> (plan[pair[1] - 1] - 1) & 1]
@@ -161,7 +157,7 @@ def decode(words, hard, side, given, room):
     return plan, cost
 
 
-def make(words, hard, side, plan, room):
+def make(words, hard, side, plan):
     """The list of a plan, every c_k 0."""
     sizes, pairs = table(words)
     count, x, r, _ = variables(sizes, pairs, hard, side)
@@ -170,21 +166,19 @@ def make(words, hard, side, plan, room):
     for index, value in enumerate(plan):
         if value not in range(1, sizes[index] + 1):
             raise Refused(11, index)
-    need(room, count)
     ones = {x[b, value] for b, value in enumerate(plan, 1)}
     ones |= {r[b, j] for b, j in r if j <= plan[b - 1]}
     made = [int(v in ones) for v in range(1, count + 1)]
-    assert decode(words, hard, side, made, len(sizes))[0] == plan
+    assert decode(words, hard, side, made)[0] == plan
     return made
 
 
-def need(lent, length):
-    if lent < length:
-        raise Refused(9, length)
-
-
-def clear(call, left):
-    """The scratch is left zero on the sides that choose, and as it was lent on the others."""
+def store(call, left, **entries):
+    """What is stored after the scratch is judged, which is then left zero on the sides that choose, and as it was lent on the others."""
+    for buffer, length in zip(["first", "second"], scratch(call.words, call.side)):
+        if call.lent[buffer] < length:
+            raise Refused(9, length)
+    apart.store(left, **entries)
     for buffer in ("first", "second") if call.side > 3 else ():
         left[buffer] = [0] * call.lent[buffer]
 
@@ -192,11 +186,7 @@ def clear(call, left):
 def answer_encode(call, left):
     _, clauses, _ = encode(call.words, call.hard, call.side)
     numbers, weights = entries([clause for _, clause in clauses]), [weight for weight, _ in clauses]
-    for buffer, length in zip(["first", "second", "literals", "weights"], scratch(call.words, call.side) + [len(numbers), len(weights)]):
-        need(call.lent[buffer], length)
-    clear(call, left)
-    left["literals"][: len(numbers)] = numbers
-    left["weights"][: len(weights)] = weights
+    store(call, left, literals=numbers, weights=weights)
     return len(numbers), len(weights)
 
 
@@ -207,14 +197,14 @@ def answer_lengths(call, _):
 
 
 def answer_decode(call, left):
-    plan, cost = decode(call.words, call.hard, call.side, list(call.given), call.lent["table"])
-    left["table"][: len(plan)] = plan
+    plan, cost = decode(call.words, call.hard, call.side, list(call.given))
+    apart.store(left, table=plan)
     return (cost,)
 
 
 def answer_make(call, left):
-    made = make(call.words, call.hard, call.side, call.plan, call.lent["text"])
-    left["text"][: len(made)] = made
+    made = make(call.words, call.hard, call.side, call.plan)
+    apart.store(left, text=made)
     return (len(made),)
 
 
@@ -227,19 +217,14 @@ ENTRY_POINTS = {
 }
 
 
-def answer(call):
-    left = {buffer: [entry_points.entry_as_lent(buffer, at) for at in range(count)] for buffer, count in call.lent.items()}
-    try:
-        if call.hard not in (0, 1) or call.side not in range(1, 6):  # row 8, which is judged before the table
-            raise Refused(8, 0)
-        values = ENTRY_POINTS[call.name](call, left)
-    except Refused as no:
-        return entry_points.Answer(no.args, [], left)
-    return entry_points.Answer(None, [*values, 0, 0, 0, 0, 0][:5], left)
+def judged(call, left):
+    if call.hard not in (0, 1) or call.side not in range(1, 6):  # row 8, before the table
+        raise Refused(8, 0)
+    return ENTRY_POINTS[call.name](call, left)
 
 
 def answers(calls):
-    return [answer(call) for call in calls]
+    return [apart.answer(call, judged) for call in calls]
 
 
 if __name__ == "__main__":

@@ -1,18 +1,19 @@
 """The sheet of document 01 once more, written from its text alone and apart from the proved code: what the entry points of sheets must answer.
 
-reference.py GROUP prints the lines that tests/cases/GROUP.lines is held to, for sheets, damaged and lists. Cases and printing are those of
-tests/cases/GROUP.py; what is answered is this file's own. Nothing here is proved; it is there to disagree.
+It answers the calls of the groups sheets, damaged and lists of tests/cases, and holds the lines that come of it to the stored ones. Nothing here is
+proved; it is there to disagree.
 """
-import importlib
+import pathlib
 import re
 import sys
 
+sys.path.insert(0, str(pathlib.Path(__file__).resolve().parent.parent / "cases"))
+import apart
+import held
+from apart import Refused
+
 HARDS = ["standard", "regular"]
 SIDES = ["direct", "support", "first", "literals", "score"]
-
-
-class Refused(Exception):
-    """A number of document 01's table of refusals, and its place."""
 
 
 class Lines:
@@ -116,60 +117,39 @@ def sheet_text(hard, side, words):
     return "".join(line + "\n" for line in lines).encode()
 
 
-class Answer:
-    """What an entry point answers, and what it leaves in the buffers that it is lent."""
-
-    def __init__(self, call):
-        self.refused, self.values = None, []
-        self.left = {buffer: [at % 251 for at in range(count)] for buffer, count in call.lent.items()}
-        try:
-            ENTRY_POINTS[call.name](self, call)
-        except Refused as refusal:
-            self.refused = refusal.args
-
-    def write(self, **entries):
-        """Into the buffers of these names, in the order in which they are judged; a refusal writes nothing."""
-        for buffer, written in entries.items():
-            if len(written) > len(self.left[buffer]):
-                raise Refused(9, len(written))
-        for buffer, written in entries.items():
-            self.left[buffer][: len(written)] = written
-
-    def read_sheet(self, call):
-        lines = Lines(call.given)
-        hard, side, words = sheet_of(lines)
-        lines.end()
-        self.write(table=words)
-        self.values = [hard, side, len(words)]
-
-    def read_list(self, call):
-        lines = Lines(call.given)
-        hard, side, words = sheet_of(lines)
-        entries = lines.bits(b"list", b"*")
-        lines.end()
-        sizes = words[2 : 2 + words[0]]
-        wanted = sum(sizes) + (sum(m - 1 for m in sizes) if hard == 1 else 0) + (words[1] if side == 2 else 0)
-        if len(entries) != wanted:
-            raise Refused(10, wanted)
-        self.write(text=entries, table=words)
-        self.values = [hard, side, len(words), len(entries)]
-
-    def write_sheet(self, call):
-        text = sheet_text(call.hard, call.side, call.words)
-        self.write(text=text)
-        self.values = [len(text)]
-
-    def check(self, call):
-        """The groups ask for it to see the buffers as they are lent, and look at nothing else of its answer."""
+def read_sheet(call, left):
+    lines = Lines(call.given)
+    hard, side, words = sheet_of(lines)
+    lines.end()
+    apart.store(left, table=words)
+    return hard, side, len(words)
 
 
-ENTRY_POINTS = {"read_sheet": Answer.read_sheet, "read_list": Answer.read_list, "write_sheet": Answer.write_sheet, "check": Answer.check}
+def read_list(call, left):
+    lines = Lines(call.given)
+    hard, side, words = sheet_of(lines)
+    entries = lines.bits(b"list", b"*")
+    lines.end()
+    sizes = words[2 : 2 + words[0]]
+    wanted = sum(sizes) + (sum(m - 1 for m in sizes) if hard == 1 else 0) + (words[1] if side == 2 else 0)
+    if len(entries) != wanted:
+        raise Refused(10, wanted)
+    apart.store(left, text=entries, table=words)
+    return hard, side, len(words), len(entries)
+
+
+def write_sheet(call, left):
+    text = sheet_text(call.hard, call.side, call.words)
+    apart.store(left, text=text)
+    return (len(text),)
+
+
+ENTRY_POINTS = {"read_sheet": read_sheet, "read_list": read_list, "write_sheet": write_sheet}
 
 
 def answers(calls):
-    return [Answer(call) for call in calls]
+    return [apart.answer(call, ENTRY_POINTS[call.name]) for call in calls]
 
 
 if __name__ == "__main__":
-    sys.path.insert(0, "tests/cases")
-    print(*importlib.import_module(sys.argv[1]).lines(answers), sep="\n")
+    sys.exit(held.report(held.hold(name, answers) for name in ("sheets", "damaged", "lists")))

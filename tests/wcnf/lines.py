@@ -16,12 +16,8 @@ def text(words, hard, side):
 
 
 def answer_wcnf(call, left):
-    """The first buffer that is too short is refused, scratch first; else the text is stored."""
     written = text(call.words, call.hard, call.side)
-    for buffer, length in zip(["first", "second", "text"], [*ref.scratch(call.words, call.side), len(written)]):
-        ref.need(call.lent[buffer], length)
-    ref.clear(call, left)
-    left["text"][: len(written)] = written
+    ref.store(call, left, text=written)
     return (len(written),)
 
 
