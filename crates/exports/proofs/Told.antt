@@ -8,7 +8,7 @@ use Rattle.encoder.specs.Encoded.{Verdict, encodedOf, Outcomes}
 use Rattle.encoder.specs.declared.Encoded.{Encoded}
 use Rattle.wcnf_out.specs.declared.Written.{Written}
 use Rattle.wcnf_out.specs.Written as texts
-use Rattle.exports.specs.Codes.{codeOf, slotsAfter, Told}
+use Rattle.codes.specs.Codes.{codeOf, slotsAfter, Told}
 
 pub told-refused : {s x : Says} {r : ℕ} {old : List ℕ} → s ≡ x → r ≡ codeOf x → slotsAfter x old ≡ old → Told s r old old
 told-refused {old = old} says code kept = record { code = code ∙ ap codeOf (sym says); slots = sym kept ∙ ap (λ (t : Says). slotsAfter t old) (sym says) }

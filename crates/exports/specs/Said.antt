@@ -15,7 +15,7 @@ use Rattle.sheet_in.specs.Parsed.{parsed, readOf, readSays}
 use Rattle.sheet_out.specs.Written as sheets
 use Rattle.list_in.specs.Answers as lists
 use Rattle.wcnf_out.specs.Written as texts
-use Rattle.exports.specs.Codes.{Told}
+use Rattle.codes.specs.Codes.{Told}
 
 abbrev pub checkSays : List ℕ → Says
 checkSays ws = checkedSays (checkedOf (judged ws))

@@ -8,14 +8,11 @@ use list_in::ReadList;
 use measure::Measured;
 use measure::Needed;
 use plan::Costed;
-use refusal::Refusal;
 use sheet_in::ReadSheet;
 use table::Checked;
 ghost use mathlib.Core.Path.{_≡_};
 ghost use mathlib.Core.List.{[], _∷_};
-ghost use Prim.Native.Nat.{min};
 ghost use lib.ListN.{length};
-ghost use Rattle.refusal.specs.Refusals.{refusalSays};
 ghost use Rattle.table.specs.Words.{judged};
 ghost use Rattle.clause.specs.Encodings.{pickedOf};
 ghost use Rattle.encoder.specs.Encoded.{scratchAfter, literalsAfter, weightsAfter};
@@ -25,27 +22,9 @@ ghost use Rattle.sheet_out.specs.Written.{sheetOf, textLeft};
 ghost use Rattle.list_in.specs.Answers.{over, tableAfter};
 ghost use Rattle.list_in.specs.Answers as listed;
 ghost use Rattle.wcnf_out.specs.Written.{textAfter};
-ghost use Rattle.exports.specs.Codes.{codeOf, Told};
+ghost use Rattle.codes.specs.Codes.{Told};
 ghost use Rattle.exports.specs.Said.{checkSays, costSays, lengthsSay, scratchSays, encodeJudged, decodeSays, makeSays, Encodes};
 ghost use Rattle.exports.specs.Said.{readSheetSays, writeSheetSays, readListSays, wcnfJudged, WritesText};
-
-// A place as a code holds it.
-fn place_code(place: usize) -> u64
-    ensures { λ r. ⌜ r ≡ min place 72057594037927935 ⌝ }
-{
-    if place < 72057594037927935 {
-        return place as u64;
-    }
-    72057594037927935
-}
-
-// A refusal's number in the top byte, its place in the seven below.
-fn code(f: Refusal) -> u64
-    ensures { λ r. ⌜ r ≡ codeOf (refusalSays f) ⌝ }
-{
-    let number = refusal::number(f) as u64;
-    number * 72057594037927936 + place_code(refusal::place(f))
-}
 
 // The table's two counts.
 #[no_mangle]
@@ -54,7 +33,7 @@ pub extern "C" fn wickcollar_check(words: &[u32], boxes: &mut usize, pairs: &mut
         (now (boxes .entry) ∷ now (pairs .entry) ∷ []) (now (boxes .exit) ∷ now (pairs .exit) ∷ []) ⌝ }
 {
     match table::check(words) {
-        Checked::Refused(f) => code(f),
+        Checked::Refused(f) => codes::code(f),
         Checked::Accepted(counts) => {
             *boxes = counts.boxes;
             *pairs = counts.pairs;
@@ -69,7 +48,7 @@ pub extern "C" fn wickcollar_cost(words: &[u32], plan: &[u32], cost: &mut u64) -
     ensures { λ r. ⌜ Told (costSays (now (words .entry)) (now (plan .entry))) r (now (cost .entry) ∷ []) (now (cost .exit) ∷ []) ⌝ }
 {
     match plan::cost(words, plan) {
-        Costed::Refused(f) => code(f),
+        Costed::Refused(f) => codes::code(f),
         Costed::Cost(sum) => {
             *cost = sum;
             0
@@ -94,7 +73,7 @@ pub extern "C" fn wickcollar_lengths(
         (now (variables .exit) ∷ now (clauses .exit) ∷ now (literals .exit) ∷ now (entries .exit) ∷ now (top .exit) ∷ []) ⌝ }
 {
     match measure::exact_lengths(words, hard, side) {
-        Measured::Refused(f) => code(f),
+        Measured::Refused(f) => codes::code(f),
         Measured::Lengths(lengths) => {
             *variables = lengths.variables;
             *clauses = lengths.clauses;
@@ -119,7 +98,7 @@ pub extern "C" fn wickcollar_scratch_lengths(
         (now (first .entry) ∷ now (second .entry) ∷ []) (now (first .exit) ∷ now (second .exit) ∷ []) ⌝ }
 {
     match measure::scratch_lengths(words, hard, side) {
-        Needed::Refused(f) => code(f),
+        Needed::Refused(f) => codes::code(f),
         Needed::Scratch(scratch) => {
             *first = scratch.first;
             *second = scratch.second;
@@ -147,7 +126,7 @@ pub extern "C" fn wickcollar_encode(
         r (now (first .exit)) (now (second .exit)) (now (literals .exit)) (now (weights .exit)) (now (entries .exit) ∷ now (clauses .exit) ∷ []) ⌝ }
 {
     match encoder::encode(words, hard, side, first, second, literals, weights) {
-        Encoded::Refused(f) => code(f),
+        Encoded::Refused(f) => codes::code(f),
         Encoded::Written(written) => {
             *entries = written.literals;
             *clauses = written.weights;
@@ -171,7 +150,7 @@ pub extern "C" fn wickcollar_decode(
         × (now (plan .exit) ≡ planAfter (pickedOf hard side) (judged (now (words .entry))) (now (list .entry)) (now (plan .entry))) ⌝ }
 {
     match decoder::decode(words, hard, side, list, plan) {
-        Decoded::Refused(f) => code(f),
+        Decoded::Refused(f) => codes::code(f),
         Decoded::Cost(weight) => {
             *cost = weight;
             0
@@ -194,7 +173,7 @@ pub extern "C" fn wickcollar_make_list(
         × (now (list .exit) ≡ listAfter (pickedOf hard side) (judged (now (words .entry))) (now (plan .entry)) (now (list .entry))) ⌝ }
 {
     match maker::make_list(words, hard, side, plan, list) {
-        Made::Refused(f) => code(f),
+        Made::Refused(f) => codes::code(f),
         Made::Written(count) => {
             *entries = count;
             0
@@ -216,7 +195,7 @@ pub extern "C" fn wickcollar_read_sheet(
         × (now (table .exit) ≡ tableLeft (parsed (now (text .entry))) (now (table .entry))) ⌝ }
 {
     match sheet_in::read_sheet(text, table) {
-        ReadSheet::Refused(f) => code(f),
+        ReadSheet::Refused(f) => codes::code(f),
         ReadSheet::Read(h, s, count) => {
             *hard = h;
             *side = s;
@@ -240,7 +219,7 @@ pub extern "C" fn wickcollar_write_sheet(
         × (now (text .exit) ≡ textLeft (sheetOf (now (words .entry)) hard side) (now (text .entry))) ⌝ }
 {
     match sheet_out::write_sheet(words, hard, side, text) {
-        sheet_out::Written::Refused(f) => code(f),
+        sheet_out::Written::Refused(f) => codes::code(f),
         sheet_out::Written::Text(length) => {
             *bytes = length;
             0
@@ -266,7 +245,7 @@ pub extern "C" fn wickcollar_read_list(
         × (now (list .exit) ≡ listed.listAfter (over (now (text .entry))) (now (table .entry)) (now (list .entry))) ⌝ }
 {
     match list_in::read_list(text, table, list) {
-        ReadList::Refused(f) => code(f),
+        ReadList::Refused(f) => codes::code(f),
         ReadList::Read(its_hard, its_side, its_words, its_entries) => {
             *hard = its_hard;
             *side = its_side;
@@ -294,7 +273,7 @@ pub extern "C" fn wickcollar_write_wcnf(
         r (now (first .exit)) (now (second .exit)) (now (text .exit)) (now (bytes .exit) ∷ []) ⌝ }
 {
     match wcnf_out::write_wcnf(words, hard, side, first, second, text) {
-        wcnf_out::Written::Refused(f) => code(f),
+        wcnf_out::Written::Refused(f) => codes::code(f),
         wcnf_out::Written::Text(count) => {
             *bytes = count;
             0

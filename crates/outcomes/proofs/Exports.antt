@@ -4,6 +4,7 @@ use mathlib.Core.List.{List, [], _∷_}
 use Prim.Native.Nat.{ℕ}
 use Rattle.outcomes.specs.Decided.{Decided}
 use Rattle.outcomes.proofs.Law.{same, decided}
+use Rattle.codes.proofs as codes
 use Rattle.exports.proofs as exports
 
 -- slot by slot
@@ -18,6 +19,9 @@ all-same (a ∷ xs) = (λ i. a, all-same xs)
 
 slots : {xs ys : List ℕ} → xs ≡ ys → Same xs ys
 slots {xs} e = subst (λ (ys : List ℕ). Same xs ys) e (all-same xs)
+
+pub codes-code-decided : Decided codes.code.ended codes.code.Reads.Post
+codes-code-decided = decided λ _ _ _ _ p q. search same
 
 pub exports-wickcollar-check-decided : Decided exports.wickcollar_check.ended exports.wickcollar_check.Reads.Post
 exports-wickcollar-check-decided = decided λ _ _ _ _ p q. (same (p .code) (q .code), slots (same (p .slots) (q .slots)))

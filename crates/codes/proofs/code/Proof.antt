@@ -2,8 +2,8 @@
 use native.Mathlib.Omega.{arith}
 use Rattle.refusal.proofs.Numbers.{small-number}
 use borrow.Author.Needs.{needs}
-use Rattle.exports.proofs.code.Statement.{statement}
-use Rattle.exports.proofs.code.Tie as tie
+use Rattle.codes.proofs.code.Statement.{statement}
+use Rattle.codes.proofs.code.Tie as tie
 
 number-requires : tie.Need-number-requires
 number-requires c κs = search needs
