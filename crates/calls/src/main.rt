@@ -214,47 +214,15 @@ fn run_in(
     false
 }
 
-// Most cases are small, and room costs time: it is zero before each.
-fn run_small() -> bool {
-    let mut case = [0u32; 13];
-    let mut words = [0u32; 1024];
-    let mut plan = [0u32; 128];
-    let mut bytes = [0u8; 16384];
-    let mut first = [0i32; 1024];
-    let mut second = [0i32; 1024];
-    let mut literals = [0i32; 16384];
-    let mut weights = [0u64; 8192];
-    let mut table = [0u32; 1024];
-    let mut text = [0u8; 131072];
-    let mut space = [0u8; 131072];
-    run_in(
-        &mut case,
-        &mut words,
-        &mut plan,
-        &mut bytes,
-        &mut first,
-        &mut second,
-        &mut literals,
-        &mut weights,
-        &mut table,
-        &mut text,
-        &mut space,
-    )
-}
-
-// What the largest tables need, and more: they have 4930 words, 220,736 literals with their zeros and 73,280 weights.
-fn run_large() -> bool {
+// A case in the room lent for what it may need much of. The room for the rest is for the largest table, which has 4930 words.
+fn run_with(literals: &mut [i32], weights: &mut [u64], text: &mut [u8], space: &mut [u8]) -> bool {
     let mut case = [0u32; 13];
     let mut words = [0u32; 8192];
     let mut plan = [0u32; 1024];
     let mut bytes = [0u8; 131072];
     let mut first = [0i32; 2048];
     let mut second = [0i32; 2048];
-    let mut literals = [0i32; 262144];
-    let mut weights = [0u64; 81920];
     let mut table = [0u32; 8192];
-    let mut text = [0u8; 1800000];
-    let mut space = [0u8; 1400000];
     run_in(
         &mut case,
         &mut words,
@@ -262,12 +230,30 @@ fn run_large() -> bool {
         &mut bytes,
         &mut first,
         &mut second,
-        &mut literals,
-        &mut weights,
+        literals,
+        weights,
         &mut table,
-        &mut text,
-        &mut space,
+        text,
+        space,
     )
+}
+
+// Most cases are small, and room costs time: it is zero before each.
+fn run_small() -> bool {
+    let mut literals = [0i32; 16384];
+    let mut weights = [0u64; 8192];
+    let mut text = [0u8; 131072];
+    let mut space = [0u8; 131072];
+    run_with(&mut literals, &mut weights, &mut text, &mut space)
+}
+
+// What the largest tables need, and more: they have 220,736 literals with their zeros and 73,280 weights.
+fn run_large() -> bool {
+    let mut literals = [0i32; 262144];
+    let mut weights = [0u64; 81920];
+    let mut text = [0u8; 1800000];
+    let mut space = [0u8; 1400000];
+    run_with(&mut literals, &mut weights, &mut text, &mut space)
 }
 
 // The room that the next case is to have comes before its head: 1 or 2. False if no case is left.
