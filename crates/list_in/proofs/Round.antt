@@ -25,7 +25,7 @@ use Rattle.sheet.specs.Keys.{hardNumber, sideNumber}
 use Rattle.sheet.specs.Sheet.{sheetText}
 use Rattle.sheet_in.specs.Parsed as sheets
 use Rattle.sheet_in.specs.Parsed.{Parsed, sheet, parsed}
-use Rattle.sheet_in.proofs.Round.{written-read, more-read, read-written}
+use Rattle.sheet_exact.proofs.Round.{written-read, more-read, read-written}
 use Rattle.list_scan.specs.declared.ListLine.{ListLine}
 use Rattle.list_scan.specs.declared.ListLine.the-variants.{Entries, Bad, More}
 use Rattle.list_scan.specs.ListLines.{listText, entriesOf, lineFound, lineStart}

@@ -20,7 +20,7 @@ use Rattle.table.proofs.Round.{sound-accepted}
 use Rattle.sheet.proofs.Sheets.{size-most}
 use Rattle.sheet_in.specs.declared.ReadSheet.{ReadSheet}
 use Rattle.sheet_in.specs.Parsed.{Parsed, sheet, faulty, parsed, fits, readOf, tableLeft}
-use Rattle.sheet_in.proofs.Round.{read-written}
+use Rattle.sheet_exact.proofs.Round.{read-written}
 use Rattle.list_in.specs.Listed.{firstFault}
 
 -- ---- the largest table

@@ -3,6 +3,7 @@ use Rattle.outcomes.specs.Decided.{Decided}
 use Rattle.outcomes.proofs.Law.{same, decided}
 use Rattle.sheet.proofs as sheet
 use Rattle.sheet_scan.proofs as sheet-scan
+use Rattle.sheet_parts.proofs as sheet-parts
 use Rattle.sheet_in.proofs as sheet-in
 use Rattle.sheet_out.proofs as sheet-out
 use Rattle.list_in.proofs as list-in
@@ -54,6 +55,15 @@ sheet-scan-weight-line-decided = decided λ _ _ _ _ p q. search same
 
 pub sheet-scan-allow-line-decided : Decided sheet-scan.allow_line.ended sheet-scan.allow_line.Reads.Post
 sheet-scan-allow-line-decided = decided λ _ _ _ _ p q. search same
+
+pub sheet-parts-read-values-decided : Decided sheet-parts.read_values.ended sheet-parts.read_values.Reads.Post
+sheet-parts-read-values-decided = decided λ _ _ _ _ p q. search same
+
+pub sheet-parts-read-pairs-decided : Decided sheet-parts.read_pairs.ended sheet-parts.read_pairs.Reads.Post
+sheet-parts-read-pairs-decided = decided λ _ _ _ _ p q. search same
+
+pub sheet-parts-fill-decided : Decided sheet-parts.fill.ended sheet-parts.fill.Reads.Post
+sheet-parts-fill-decided = decided λ _ _ _ _ p q. search same
 
 pub sheet-in-read-sheet-decided : Decided sheet-in.read_sheet.ended sheet-in.read_sheet.Reads.Post
 sheet-in-read-sheet-decided = decided λ _ _ _ _ p q. search same

@@ -1,13 +1,11 @@
 -- Each way that reading a sheet ends, with what is answered and what the table then holds.
-use mathlib.Core.Path.{_≡_, refl, sym, ap, _∙_}
+use mathlib.Core.Path.{_≡_, refl, ap, _∙_}
 use mathlib.Core.List.{List, _∷_, _++_}
 use Prim.Native.Nat.{ℕ, _+_, _≤_, _<_}
 use native.Mathlib.Omega.{arith}
-use lib.ListN.{length, length-append, take, drop, set}
+use lib.ListN.{length, length-append, take, drop}
 use lib.Seq.{sets, sets-eq, take-append-seam}
 use borrow.Author.Tests.{le-leb, lt-leb}
-use Rattle.lists.specs.Stores.{Wrote}
-use Rattle.lists.proofs.Stores.{sets-append}
 use Rattle.refusal.specs.declared.Refusal.{Refusal}
 use Rattle.refusal.specs.declared.Refusal.the-variants.{Room}
 use Rattle.scan.specs.declared.Line.the-variants.{Found, Fault}
@@ -17,10 +15,9 @@ use Rattle.sheet.specs.Keys.{boxesKey, pairsKey}
 use Rattle.sheet.proofs.Sheets.{hard-long}
 use Rattle.sheet_scan.specs.Found.{hardAt, sideAt}
 use Rattle.sheet_scan.proofs.Choices.{hard-was, side-was}
-use Rattle.sheet_in.specs.declared.Step.{Step}
-use Rattle.sheet_in.specs.declared.Step.the-variants.{Next, Bad}
+use Rattle.sheet_parts.specs.declared.Step.the-variants.{Next, Bad}
 use Rattle.sheet_in.specs.declared.ReadSheet.{ReadSheet}
-use Rattle.sheet_in.specs.Reading.{Got, read, fault, words, valuesAt, pairsAt, Filed, Sized}
+use Rattle.sheet_parts.specs.Reading.{Got, read, fault, words, valuesAt, pairsAt, Filed, Sized}
 use Rattle.sheet_in.specs.Parsed.{Parsed, sheet, faulty, onWord, closed, restAt, onSizes, parsed, readOf, tableLeft}
 use Rattle.sheet_in.proofs.Groups.{values-were}
 
@@ -161,13 +158,6 @@ module _ (s : List ℕ) where
             let E = exact-line s boxesKey 1 64 in
             let far = exact-moves E n j k e in
             (E .was n j k e .0 .1, far .1, omega (arith, H .stands .next, hard-long (H .hard), D .stands .next))
-
--- ---- what is stored: the counts, the sizes, the pairs
-
-pub all-words : (g : Got) (n p : ℕ) (sizes old : List ℕ) {one two three new : List ℕ} {w : ℕ} {r : Step} → one ≡ set old 0 n → two ≡ set one 1 p
-    → Wrote two 2 sizes w three → Filed g w three r new → new ≡ sets old 0 (n ∷ p ∷ (sizes ++ words g))
-all-words g n p sizes old a b c f =
-    f .list ∙ rw (c .list, c .next, b, a) (sym (sets-append sizes (words g) (set (set old 0 n) 1 p) 2))
 
 -- the pairs line moves the place
 pub count-moves : (s : List ℕ) (v i k : ℕ) → lineAt s i pairsKey 0 256 ≡ Found v k → (i < k) × (k ≤ length s)

@@ -1,35 +1,30 @@
--- What is written is read, and what is read was written: of one line, of many things after each other, and of a pair.
+-- What is written is read, and what is read was written: of one line, and of many things after each other.
 use mathlib.Core.Path.{_≡_, refl, sym, ap, ap₂, _∙_, subst}
 use mathlib.Core.List.{List, [], _∷_, _++_, flatMap}
 use Prim.Native.Nat.{ℕ, zero, suc, _+_}
 use native.Mathlib.Nat.{add-zero}
 use native.Mathlib.Omega.{arith}
 use lib.ListN.{length}
-use Rattle.lists.specs.Lists.{nth, Each}
-use Rattle.table.specs.Table.{Pair, Table, In, pairWords, SoundPair}
-use Rattle.text_out.specs.Texts.{lineOf, rowOf}
+use Rattle.lists.specs.Lists.{Each}
+use Rattle.table.specs.Table.{In}
+use Rattle.text_out.specs.Texts.{lineOf}
 use Rattle.scan.specs.declared.Line.{Line}
 use Rattle.scan.specs.declared.Line.the-variants.{Found, Fault}
 use Rattle.scan.specs.Stands.{Stands}
-use Rattle.scan.specs.Lines.{lineAt}
 use Rattle.scan.proofs.Places.{stands-append, stands-split}
 use Rattle.scan.proofs.Lines.{Exact, exact-line}
-use Rattle.scan.proofs.Rows.{exact-row}
-use Rattle.sheet.specs.Keys.{valuesKey, firstKey, secondKey, weightKey, allowKey}
-use Rattle.sheet.specs.Sheet.{valuesText, rowsText, headText, pairText}
-use Rattle.sheet_scan.specs.Found.{secondAt}
-use Rattle.sheet_scan.proofs.Choices.{exact-second}
-use Rattle.sheet_in.specs.Reading.{Got, read, fault, after, next, onLine, one, many, valuesAt, pairAt}
+use Rattle.sheet.specs.Keys.{valuesKey}
+use Rattle.sheet_parts.specs.Reading.{Got, read, fault, after, next, onLine, one, many, valuesAt}
 
 -- ---- what was read, taken apart
 
 never : {X : Type 0} {ws vs : List ℕ} {k : ℕ} → fault ws ≡ read vs k → X
 never e = absurd (let o : _≡_ {A = ℕ} 0 1 = cc in omega arith)
 
-record AfterRead (ws : List ℕ) (g : Got) (vs : List ℕ) (k : ℕ) : Type 0 where
-  more : List ℕ
-  reads : g ≡ read more k
-  words : vs ≡ ws ++ more
+pub record AfterRead (ws : List ℕ) (g : Got) (vs : List ℕ) (k : ℕ) : Type 0 where
+  pub more : List ℕ
+  pub reads : g ≡ read more k
+  pub words : vs ≡ ws ++ more
 
 after-read : (ws : List ℕ) (g : Got) {vs : List ℕ} {k : ℕ} → after ws g ≡ read vs k → AfterRead ws g vs k
 unfolding after
@@ -49,13 +44,13 @@ unfolding next
 next-read (read ws j) f e = record { first = ws; place = j; begins = refl; rest = after-read ws (f j) e }
 next-read (fault ws) f e = never e
 
-record LineRead (x : Line) (f : ℕ → ℕ → Got) (vs : List ℕ) (k : ℕ) : Type 0 where
-  word : ℕ
-  place : ℕ
-  finds : x ≡ Found word place
-  rest : AfterRead (word ∷ []) (f word place) vs k
+pub record LineRead (x : Line) (f : ℕ → ℕ → Got) (vs : List ℕ) (k : ℕ) : Type 0 where
+  pub word : ℕ
+  pub place : ℕ
+  pub finds : x ≡ Found word place
+  pub rest : AfterRead (word ∷ []) (f word place) vs k
 
-line-read : (x : Line) (f : ℕ → ℕ → Got) {vs : List ℕ} {k : ℕ} → onLine x f ≡ read vs k → LineRead x f vs k
+pub line-read : (x : Line) (f : ℕ → ℕ → Got) {vs : List ℕ} {k : ℕ} → onLine x f ≡ read vs k → LineRead x f vs k
 unfolding onLine
 line-read (Found v j) f e = record { word = v; place = j; finds = refl; rest = after-read (v ∷ []) (f v j) e }
 line-read Fault f e = never e
@@ -149,57 +144,7 @@ lines-were E n i k ws e =
     let same : ws ≡ W .things = W .words ∙ flat-one (W .things) in
     rw same (record { count = W .count; holds = W .holds; stands = W .stands })
 
--- ---- the sheet's lines of sizes, and its rows
-
-pub values-found : (s vs : List ℕ) (i k : ℕ) → Each (In 1 16) vs → Stands s i (valuesText vs) k → valuesAt s (length vs) i ≡ read vs k
-unfolding valuesText
-values-found s vs i k h r = lines-found (exact-line s valuesKey 1 16) vs i k h r
+-- ---- the sheet's lines of sizes
 
 pub values-were : (s : List ℕ) (n i k : ℕ) (ws : List ℕ) → valuesAt s n i ≡ read ws k → LinesWere s (lineOf valuesKey) (In 1 16) n i k ws
 values-were s n i k ws e = lines-were (exact-line s valuesKey 1 16) n i k ws e
-
--- ---- a pair among boxes of these sizes
-
-abbrev pub Of : List ℕ → Table
-Of sizes = record { sizes = sizes; pairs = [] }
-
-module _ (s sizes : List ℕ) where
-  pair-found : (p : Pair) (i k : ℕ) → SoundPair (Of sizes) p → Stands s i (pairText sizes p) k → pairAt s sizes i ≡ read (pairWords p) k
-  unfolding pairAt pairText headText rowsText onLine after
-  pair-found p i k S r =
-      let one = lineOf firstKey (p .first) in
-      let two = lineOf secondKey (p .second) in
-      let three = lineOf weightKey (p .weight) in
-      let m = nth sizes (p .second) in
-      let h = stands-split (one ++ (two ++ three)) (flatMap (rowOf allowKey m) (p .masks)) r in
-      let a = stands-split one (two ++ three) (h .0) in
-      let b = stands-split two three (a .1) in
-      let rows = lines-found (exact-row s allowKey m) (p .masks) _ k (S .masks) (h .1) in
-      rw (
-        exact-line s firstKey 1 (length sizes) .found (p .first) i _ (S .first) (a .0),
-        exact-second s (length sizes) (p .first) .found (p .second) _ _ (S .second, S .differ) (b .0),
-        exact-line s weightKey 1 1000000 .found (p .weight) _ _ (S .weight) (b .1),
-        ← S .rows,
-        rows,
-      )
-
-  pair-was : (i k : ℕ) (ws : List ℕ) → pairAt s sizes i ≡ read ws k → Was s (pairText sizes) pairWords (SoundPair (Of sizes)) i k ws
-  unfolding pairAt pairText headText rowsText
-  pair-was i k ws e =
-      let a = line-read (lineAt s i firstKey 1 (length sizes)) _ e in
-      let b = line-read (secondAt s (length sizes) (a .word) (a .place)) _ (a .rest .reads) in
-      let c = line-read (lineAt s (b .place) weightKey 1 1000000) _ (b .rest .reads) in
-      let m = nth sizes (b .word) in
-      let one = exact-line s firstKey 1 (length sizes) .was (a .word) i (a .place) (a .finds) in
-      let two = exact-second s (length sizes) (a .word) .was (b .word) (a .place) (b .place) (b .finds) in
-      let three = exact-line s weightKey 1 1000000 .was (c .word) (b .place) (c .place) (c .finds) in
-      let rows = lines-were (exact-row s allowKey m) (nth sizes (a .word)) (c .place) k (c .rest .more) (c .rest .reads) in
-      record {
-        thing = record { first = a .word; second = b .word; weight = c .word; masks = c .rest .more };
-        holds = record { first = one .0; second = two .0 .0; differ = two .0 .1; weight = three .0; rows = rows .count; masks = rows .holds };
-        words = a .rest .words ∙ ap (λ (l : List ℕ). a .word ∷ l) (b .rest .words ∙ ap (λ (l : List ℕ). b .word ∷ l) (c .rest .words));
-        stands = stands-append (stands-append (one .1) (stands-append (two .1) (three .1))) (rows .stands);
-      }
-
-  pub pairs : Group s (pairAt s sizes) (pairText sizes) pairWords (SoundPair (Of sizes))
-  pairs = record { found = pair-found; was = pair-was }

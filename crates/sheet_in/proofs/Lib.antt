@@ -1,6 +1,3 @@
-pub mod Steps
-pub mod Pairs
 pub mod Groups
 pub mod Answers
-pub mod Round
 pub mod Was

@@ -13,7 +13,7 @@ use Rattle.scan.specs.Lines.{lineAt}
 use Rattle.sheet.specs.Keys.{boxesKey, pairsKey}
 use Rattle.sheet.specs.Room.{filled}
 use Rattle.sheet_scan.specs.Found.{hardAt, sideAt}
-use Rattle.sheet_in.specs.Reading.{Got, read, fault, valuesAt, pairsAt}
+use Rattle.sheet_parts.specs.Reading.{Got, read, fault, valuesAt, pairsAt}
 use Rattle.sheet_in.specs.declared.ReadSheet.{ReadSheet}
 
 -- the hard part's number, the side's, and the words of the table; or the faulty line

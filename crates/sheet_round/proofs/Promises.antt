@@ -29,7 +29,7 @@ use Rattle.sheet_out.specs.Written.{Sheet, text, none, ofChoices, sheetOf, fits
 use Rattle.sheet_in.specs.declared.ReadSheet.{ReadSheet}
 use Rattle.sheet_in.specs.Parsed.{Parsed, sheet, parsed, readOf, tableLeft}
 use Rattle.sheet_in.proofs.Answers.{taken}
-use Rattle.sheet_in.proofs.Round.{written-read, read-written}
+use Rattle.sheet_exact.proofs.Round.{written-read, read-written}
 use Rattle.sheet_in.proofs.Was.{read-was}
 
 -- ---- the choices and their numbers

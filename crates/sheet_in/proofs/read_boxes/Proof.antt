@@ -1,8 +1,8 @@
 -- The sizes are read to their end, and stand in the array that the rest is handed.
 use Rattle.sheet_in.proofs.Answers.{size-bad, sizes-read, sizes-rest}
-use Rattle.sheet_in.proofs.Steps.{paced-filed, paced-bad}
-use Rattle.sheet_in.proofs.Pairs.{paced-values}
-use Rattle.sheet_in.specs.Reading.{valuesAt}
+use Rattle.sheet_parts.proofs.Steps.{paced-filed, paced-bad}
+use Rattle.sheet_parts.proofs.Pairs.{paced-values}
+use Rattle.sheet_parts.specs.Reading.{valuesAt}
 use mathlib.Core.Path.{refl, sym}
 use native.Mathlib.Omega.{arith}
 use borrow.Author.Needs.{needs}

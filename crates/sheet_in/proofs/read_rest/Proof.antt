@@ -1,9 +1,9 @@
 -- Each exit is one way that the pairs end.
 use Rattle.sheet_in.proofs.Answers.{at-line, no-count, count-moves, pair-bad, more-text, table-short, table-full}
-use Rattle.sheet_in.proofs.Steps.{paced-filed, paced-bad}
-use Rattle.sheet_in.proofs.Pairs.{paced-pairs}
+use Rattle.sheet_parts.proofs.Steps.{paced-filed, paced-bad}
+use Rattle.sheet_parts.proofs.Pairs.{paced-pairs}
 use Rattle.sheet_in.specs.Parsed.{restAt}
-use Rattle.sheet_in.specs.Reading.{pairsAt}
+use Rattle.sheet_parts.specs.Reading.{pairsAt}
 use mathlib.Core.Path.{refl, sym, _∙_}
 use native.Mathlib.Omega.{arith}
 use borrow.Author.Needs.{needs}

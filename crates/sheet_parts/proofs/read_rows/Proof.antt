@@ -1,13 +1,13 @@
 -- What is left to read gives what the whole gives.
-use Rattle.sheet_in.proofs.Steps.{Rest, rest-all, rest-next, rest-bad, rest-done, filed-one, bad-one}
-use Rattle.sheet_in.proofs.Pairs.{row-moves}
-use Rattle.sheet_in.specs.Reading.{maskGot}
+use Rattle.sheet_parts.proofs.Steps.{Rest, rest-all, rest-next, rest-bad, rest-done, filed-one, bad-one}
+use Rattle.sheet_parts.proofs.Pairs.{row-moves}
+use Rattle.sheet_parts.specs.Reading.{maskGot}
 use Prim.Native.Nat.{_-_}
 use mathlib.Core.Path.{sym, _∙_}
 use native.Mathlib.Omega.{arith}
 use borrow.Author.Needs.{needs}
-use Rattle.sheet_in.proofs.read_rows.Statement.{statement}
-use Rattle.sheet_in.proofs.read_rows.Tie as tie
+use Rattle.sheet_parts.proofs.read_rows.Statement.{statement}
+use Rattle.sheet_parts.proofs.read_rows.Tie as tie
 
 abbrev Inv-loop : tie.InvT-loop
 Inv-loop text from m count table₀ first at₀ word₀ k₀ table at word k = Rest text (maskGot text m) count from first table₀ table k at word

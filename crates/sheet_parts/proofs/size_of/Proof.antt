@@ -3,8 +3,8 @@ use Prim.Native.Nat.{ℕ, _-_}
 use lib.ListN.{getD}
 use mathlib.Core.Path.{ap, _∙_}
 use borrow.Author.Needs.{needs}
-use Rattle.sheet_in.proofs.size_of.Statement.{statement}
-use Rattle.sheet_in.proofs.size_of.Tie as tie
+use Rattle.sheet_parts.proofs.size_of.Statement.{statement}
+use Rattle.sheet_parts.proofs.size_of.Tie as tie
 
 wide-requires : tie.Need-wide-requires
 wide-requires c κs = search needs

@@ -1,10 +1,10 @@
 -- The counts, the sizes and the pairs are stored after each other.
-use Rattle.sheet_in.proofs.Answers.{all-words}
-use Rattle.sheet_in.specs.Reading.{pairsAt}
+use Rattle.sheet_parts.proofs.Steps.{all-words}
+use Rattle.sheet_parts.specs.Reading.{pairsAt}
 use lib.ListN.{length}
 use borrow.Author.Needs.{needs}
-use Rattle.sheet_in.proofs.fill.Statement.{statement}
-use Rattle.sheet_in.proofs.fill.Tie as tie
+use Rattle.sheet_parts.proofs.fill.Statement.{statement}
+use Rattle.sheet_parts.proofs.fill.Tie as tie
 
 cast-n : tie.Need-cast-n
 cast-n c = search needs

@@ -25,10 +25,11 @@ use Rattle.sheet.specs.Keys.{boxesKey, valuesKey, pairsKey, hardLine, sideLine,
 use Rattle.sheet.specs.Sheet.{valuesText, pairText, pairsText, bodyText, sheetText}
 use Rattle.sheet_scan.specs.Found.{hardAt, sideAt}
 use Rattle.sheet_scan.proofs.Choices.{hard-found, side-found, hard-was, side-was}
-use Rattle.sheet_in.specs.Reading.{Got, read, fault, valuesAt, pairsAt}
+use Rattle.sheet_parts.specs.Reading.{Got, read, fault, valuesAt, pairsAt}
 use Rattle.sheet_in.specs.Parsed.{Parsed, sheet, faulty, onWord, closed, restAt, onSizes, parsed}
-use Rattle.sheet_in.proofs.Groups.{Of, pairs, many-found, many-were, values-found, values-were}
+use Rattle.sheet_in.proofs.Groups.{many-found, many-were, values-were}
 use Rattle.sheet_in.proofs.Answers.{sizes-next}
+use Rattle.sheet_exact.proofs.Pairs.{Of, pairs, values-found}
 
 -- ---- what is written is read
 

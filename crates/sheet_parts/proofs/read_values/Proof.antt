@@ -1,13 +1,13 @@
 -- What is left to read gives what the whole gives.
-use Rattle.sheet_in.proofs.Steps.{Rest, rest-all, rest-next, rest-bad, rest-done, filed-one, bad-one}
-use Rattle.sheet_in.proofs.Pairs.{value-moves}
-use Rattle.sheet_in.specs.Reading.{sizeGot}
+use Rattle.sheet_parts.proofs.Steps.{Rest, rest-all, rest-next, rest-bad, rest-done, filed-one, bad-one}
+use Rattle.sheet_parts.proofs.Pairs.{value-moves}
+use Rattle.sheet_parts.specs.Reading.{sizeGot}
 use Prim.Native.Nat.{_-_}
 use mathlib.Core.Path.{sym, _∙_}
 use native.Mathlib.Omega.{arith}
 use borrow.Author.Needs.{needs}
-use Rattle.sheet_in.proofs.read_values.Statement.{statement}
-use Rattle.sheet_in.proofs.read_values.Tie as tie
+use Rattle.sheet_parts.proofs.read_values.Statement.{statement}
+use Rattle.sheet_parts.proofs.read_values.Tie as tie
 
 abbrev Inv-loop : tie.InvT-loop
 Inv-loop text from n sizes₀ at₀ k₀ sizes at k = Rest text (sizeGot text) n from 0 sizes₀ sizes k at k

@@ -12,8 +12,8 @@ use Rattle.scan.specs.Lines.{lineAt}
 use Rattle.scan.specs.Rows.{rowAt}
 use Rattle.sheet.specs.Keys.{valuesKey, firstKey, weightKey, allowKey}
 use Rattle.sheet_scan.specs.Found.{secondAt}
-use Rattle.sheet_in.specs.declared.Step.{Step}
-use Rattle.sheet_in.specs.declared.Step.the-variants.{Next, Bad}
+use Rattle.sheet_parts.specs.declared.Step.{Step}
+use Rattle.sheet_parts.specs.declared.Step.the-variants.{Next, Bad}
 
 pub data Got : Type 0 where
   read : List ℕ → ℕ → Got

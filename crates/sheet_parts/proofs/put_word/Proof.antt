@@ -2,8 +2,8 @@
 use lib.Seq.{set-out}
 use mathlib.Core.Path.{sym}
 use borrow.Author.Needs.{needs}
-use Rattle.sheet_in.proofs.put_word.Statement.{statement}
-use Rattle.sheet_in.proofs.put_word.Tie as tie
+use Rattle.sheet_parts.proofs.put_word.Statement.{statement}
+use Rattle.sheet_parts.proofs.put_word.Tie as tie
 
 mul-table : tie.Need-mul-table
 mul-table c = search needs

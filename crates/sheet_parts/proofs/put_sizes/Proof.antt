@@ -9,8 +9,8 @@ use mathlib.Core.Path.{_≡_, refl}
 use native.Mathlib.Numerals.{add-one}
 use native.Mathlib.Omega.{arith}
 use borrow.Author.Needs.{needs}
-use Rattle.sheet_in.proofs.put_sizes.Statement.{statement}
-use Rattle.sheet_in.proofs.put_sizes.Tie as tie
+use Rattle.sheet_parts.proofs.put_sizes.Statement.{statement}
+use Rattle.sheet_parts.proofs.put_sizes.Tie as tie
 
 abbrev Inv-loop : tie.InvT-loop
 Inv-loop table₀ from sizes at₀ i₀ table at i = (i ≤ length sizes) × (at ≡ from + i) × Owes table₀ from sizes table at (drop i sizes)

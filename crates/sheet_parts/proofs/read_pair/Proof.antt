@@ -1,11 +1,11 @@
 -- Each exit is one line of the definition.
 use Rattle.sheet.proofs.Sheets.{size-most}
-use Rattle.sheet_in.proofs.Pairs.{no-first, no-second, no-weight, pair-rows, heads}
+use Rattle.sheet_parts.proofs.Pairs.{no-first, no-second, no-weight, pair-rows, heads}
 use mathlib.Core.Path.{sym, _∙_}
 use native.Mathlib.Omega.{arith}
 use borrow.Author.Needs.{needs}
-use Rattle.sheet_in.proofs.read_pair.Statement.{statement}
-use Rattle.sheet_in.proofs.read_pair.Tie as tie
+use Rattle.sheet_parts.proofs.read_pair.Statement.{statement}
+use Rattle.sheet_parts.proofs.read_pair.Tie as tie
 
 cast-n : tie.Need-cast-n
 cast-n c = search needs

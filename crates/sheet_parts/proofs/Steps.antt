@@ -7,12 +7,13 @@ use native.Mathlib.Nat.{add-zero, add-assoc, sub-zero}
 use native.Mathlib.Omega.{arith}
 use lib.ListN.{length, length-append, set}
 use lib.Seq.{sets, length-sets}
+use Rattle.lists.specs.Stores.{Wrote}
 use Rattle.lists.proofs.Stores.{sets-append}
 use Rattle.scan.specs.declared.Line.{Line}
 use Rattle.scan.specs.declared.Line.the-variants.{Found, Fault}
-use Rattle.sheet_in.specs.declared.Step.{Step}
-use Rattle.sheet_in.specs.declared.Step.the-variants.{Next, Bad}
-use Rattle.sheet_in.specs.Reading.{Got, read, fault, words, after, next, onLine, one, many, stepOf, Filed}
+use Rattle.sheet_parts.specs.declared.Step.{Step}
+use Rattle.sheet_parts.specs.declared.Step.the-variants.{Next, Bad}
+use Rattle.sheet_parts.specs.Reading.{Got, read, fault, words, after, next, onLine, one, many, stepOf, Filed}
 
 after-step : (from : ℕ) (ws : List ℕ) (g : Got) → stepOf (from + length ws) g ≡ stepOf from (after ws g)
 unfolding after
@@ -157,3 +158,10 @@ paced-filed (fault ws) d p h f = absurd (let o : _≡_ {A = ℕ} 0 1 = cc (f .st
 pub paced-bad : (g : Got) {n i w u : ℕ} {old new : List ℕ} (d : ℕ) → Paced n i g → w + d ≤ i → Filed g w old (Bad u) new → u + d ≤ n
 paced-bad (read ws k) d p h f = absurd (let o : _≡_ {A = ℕ} 0 1 = cc (f .step) in omega arith)
 paced-bad (fault ws) {n} {i} {w} {u} d p h f = let place : u ≡ w + length ws = cc (f .step) in omega arith
+
+-- ---- what is stored: the counts, the sizes, the pairs
+
+pub all-words : (g : Got) (n p : ℕ) (sizes old : List ℕ) {one two three new : List ℕ} {w : ℕ} {r : Step} → one ≡ set old 0 n → two ≡ set one 1 p
+    → Wrote two 2 sizes w three → Filed g w three r new → new ≡ sets old 0 (n ∷ p ∷ (sizes ++ words g))
+all-words g n p sizes old a b c f =
+    f .list ∙ rw (c .list, c .next, b, a) (sym (sets-append sizes (words g) (set (set old 0 n) 1 p) 2))

@@ -14,10 +14,10 @@ use Rattle.scan.proofs.Rows.{exact-row}
 use Rattle.sheet.specs.Keys.{valuesKey, firstKey, weightKey, allowKey}
 use Rattle.sheet_scan.specs.Found.{secondAt}
 use Rattle.sheet_scan.proofs.Choices.{exact-second}
-use Rattle.sheet_in.specs.declared.Step.{Step}
-use Rattle.sheet_in.specs.declared.Step.the-variants.{Bad}
-use Rattle.sheet_in.specs.Reading.{rowsAt, pairAt, pairsAt, Filed, valuesAt}
-use Rattle.sheet_in.proofs.Steps.{filed-fault, filed-line, Paced, Moves, paced-line, paced-one, paced-many}
+use Rattle.sheet_parts.specs.declared.Step.{Step}
+use Rattle.sheet_parts.specs.declared.Step.the-variants.{Bad}
+use Rattle.sheet_parts.specs.Reading.{rowsAt, pairAt, pairsAt, Filed, valuesAt}
+use Rattle.sheet_parts.proofs.Steps.{filed-fault, filed-line, Paced, Moves, paced-line, paced-one, paced-many}
 
 pub value-moves : (s : List ℕ) → Moves (length s) (λ i. lineAt s i valuesKey 1 16)
 value-moves s = exact-moves (exact-line s valuesKey 1 16)

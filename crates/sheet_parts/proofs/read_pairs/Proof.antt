@@ -1,12 +1,12 @@
 -- What is left to read gives what the whole gives.
-use Rattle.sheet_in.proofs.Steps.{Rest, rest-all, rest-next, rest-bad, rest-done, filed-long, paced-filed}
-use Rattle.sheet_in.proofs.Pairs.{paced-pair}
-use Rattle.sheet_in.specs.Reading.{pairAt}
+use Rattle.sheet_parts.proofs.Steps.{Rest, rest-all, rest-next, rest-bad, rest-done, filed-long, paced-filed}
+use Rattle.sheet_parts.proofs.Pairs.{paced-pair}
+use Rattle.sheet_parts.specs.Reading.{pairAt}
 use Prim.Native.Nat.{_-_}
 use native.Mathlib.Omega.{arith}
 use borrow.Author.Needs.{needs}
-use Rattle.sheet_in.proofs.read_pairs.Statement.{statement}
-use Rattle.sheet_in.proofs.read_pairs.Tie as tie
+use Rattle.sheet_parts.proofs.read_pairs.Statement.{statement}
+use Rattle.sheet_parts.proofs.read_pairs.Tie as tie
 
 abbrev Inv-loop : tie.InvT-loop
 Inv-loop text from sizes p table₀ first at₀ word₀ k₀ table at word k = Rest text (pairAt text sizes) p from first table₀ table k at word
