@@ -1,57 +1,25 @@
--- What is wrong with a list first; the answers of the decoder and of the list maker, and what their lent buffers hold after.
-use Prim.Native.Nat.{ℕ, _+_}
-use mathlib.Core.Path.{_≡_}
-use mathlib.Core.Bool.{true}
+-- The answers of the decoder and of the list maker, and what their lent buffers hold after.
+use Prim.Native.Nat.{ℕ}
 use mathlib.Core.Option.{Option, none, some}
 use mathlib.Core.List.{List, [], _∷_}
-use lib.ListN.{length, getD}
+use lib.ListN.{length}
 use lib.Seq.{sets}
-use lib.Dec.{leb, eqb}
-use Rattle.lists.specs.Firsts.{_then_, unless, firstOf, Lowest}
+use lib.Dec.{leb}
+use Rattle.lists.specs.Firsts.{_then_, unless}
 use Rattle.refusal.specs.declared.Refusal.{Refusal}
-use Rattle.refusal.specs.declared.Refusal.the-variants.{Room, Length, Entry, Broken}
+use Rattle.refusal.specs.declared.Refusal.the-variants.{Room}
 use Rattle.refusal.specs.Refusals.{Says, gives, refusalSays}
 use Rattle.table.specs.Table.{Table, boxes}
 use Rattle.table.specs.Words.{Outcome}
 use Rattle.plan.specs.Plan.{cost, planFault}
-use Rattle.clause.specs.declared.Hard.{Hard}
-use Rattle.clause.specs.declared.Side.{Side}
 use Rattle.clause.specs.declared.Encoding.{Encoding}
 use Rattle.clause.specs.declared.Picked.{Picked}
 use Rattle.clause.specs.Numbers.{variables}
 use Rattle.asked.specs.Asked.{over}
+use Rattle.list_judge.specs.Faults.{listFault}
 use Rattle.decoder.specs.declared.Decoded.{Decoded}
 use Rattle.decoder.specs.declared.Made.{Made}
-use Rattle.decoder.specs.Lists.{Bit, boxOk, planOf, made}
-
--- ---- what is wrong with a list first
-
--- the entry at index i is 0 or 1
-unfoldable pub entryFault : List ℕ → ℕ → Option Refusal
-entryFault l i = unless (leb (getD l i 0) 1) (Entry i)
-
-abbrev pub entriesFault : List ℕ → Option Refusal
-entriesFault l = firstOf (entryFault l) (λ i. i + 1) (length l) 0
-
--- box b has no false hard clause
-unfoldable pub boxFault : Hard → Table → List ℕ → ℕ → Option Refusal
-boxFault h t l b = unless (boxOk h t l b) (Broken b)
-
-abbrev pub boxesFault : Hard → Table → List ℕ → Option Refusal
-boxesFault h t l = firstOf (boxFault h t l) (λ b. b + 1) (boxes t) 1
-
--- 10 for a list of the wrong length, then 11 at the lowest index of an entry that is not 0 or 1, then 12 at the lowest box with a false hard clause
-unfoldable pub listFault : Hard → Side → Table → List ℕ → Option Refusal
-listFault h s t l =
-    unless (eqb (length l) (variables t h s)) (Length (variables t h s)) then entriesFault l then boxesFault h t l
-
--- the lowest index of an entry that is not 0 or 1
-abbrev pub LowestEntry : List ℕ → ℕ → Type 0
-LowestEntry l i = Lowest (λ j. Bit (getD l j 0)) 0 (length l) i
-
--- the lowest box one of whose hard clauses is false
-abbrev pub LowestBroken : Hard → Table → List ℕ → ℕ → Type 0
-LowestBroken h t l b = Lowest (λ c. boxOk h t l c ≡ true) 1 (boxes t) b
+use Rattle.decoder.specs.Lists.{planOf, made}
 
 -- ---- what a refusal leaves, and success
 

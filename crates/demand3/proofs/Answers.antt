@@ -27,14 +27,17 @@ use Rattle.clause.specs.Numbers.{x, variables}
 use Rattle.clause.specs.List.{clauses}
 use Rattle.decoder.specs.declared.Decoded.{Decoded}
 use Rattle.decoder.specs.declared.Made.{Made}
-use Rattle.decoder.specs.Lists.{Bit, Accepts, planOf, made}
-use Rattle.decoder.specs.Answers.{listFault, decodeFault, decodedWith, decodedOf, planAfter, makeFault, madeOf, listAfter}
+use Rattle.list_judge.specs.Lists.{Bit}
+use Rattle.list_judge.specs.Faults.{listFault}
+use Rattle.decoder.specs.Lists.{planOf, made}
+use Rattle.decoder.specs.Answers.{decodeFault, decodedWith, decodedOf, planAfter, makeFault, madeOf, listAfter}
 use Rattle.lists.proofs.Stores.{sets-begins}
 use Rattle.lists.proofs.Search.{then-exact}
 use Rattle.decoder.proofs.Judged.{answer-fine}
 use Rattle.decoder.proofs.PlanOfList.{plan-long}
-use Rattle.decoder.proofs.ListOfPlan.{made-long}
-use Rattle.decoder.proofs.Demand3 as demand3
+use Rattle.maker.proofs.Long.{made-long}
+use Rattle.demand3.specs.Accepted.{Accepts}
+use Rattle.demand3.proofs.Demand3 as demand3
 use contract.Lifetimes.{Lfts}
 use Rattle.decoder.proofs.decode.Reads as decode
 use Rattle.maker.proofs.make_list.Reads as make-list

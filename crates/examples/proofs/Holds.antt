@@ -16,8 +16,10 @@ use Rattle.clause.specs.Lengths.{top}
 use Rattle.clause.specs.List.{hardPart, pairClauses, softFrom, softPart, clauses}
 use Rattle.clause.specs.Numbers.{values, thresholds, switches, valueBase, stepBase, c, variables}
 use Rattle.clause.specs.Soft.{softWith, soft}
-use Rattle.decoder.specs.Answers.{entryFault, boxFault, listFault, decodeFault}
-use Rattle.decoder.specs.Lists.{boxOk, held, planOf}
+use Rattle.list_judge.specs.Faults.{entryFault, boxFault, listFault}
+use Rattle.list_judge.specs.Lists.{boxOk, held}
+use Rattle.decoder.specs.Answers.{decodeFault}
+use Rattle.decoder.specs.Lists.{planOf}
 use Rattle.lists.specs.Lists.{Each}
 use Rattle.examples.specs.Table.{Holds, table}
 

@@ -49,7 +49,7 @@ fn wanted(words: &[u32], hard: u32, side: u32) -> usize
     };
     let part = e.hard;
     let pair_side = e.side;
-    decoder::variables(words, part, pair_side)
+    list_judge::variables(words, part, pair_side)
 }
 
 // A list of these characters for the table of these words: 10, then 9. Both are stored when nothing is left to judge.

@@ -148,7 +148,7 @@ fn answer(words: &[u32], counts: Counts, e: Encoding, plan: &[u32], list: &mut [
     match plan::judge(words, n, plan) {
         Judged::Wrong(f) => Made::Refused(f),
         Judged::Fine => {
-            let needed = decoder::variables(words, hard, side);
+            let needed = list_judge::variables(words, hard, side);
             if list.len() < needed {
                 return Made::Refused(Refusal::Room(needed));
             }

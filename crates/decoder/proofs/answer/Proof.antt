@@ -1,10 +1,8 @@
 -- The list's fault decides, then the room; without either the plan is put and its cost is the answer.
-use Rattle.decoder.proofs.Faults.{list-exact}
 use Rattle.decoder.proofs.Judged.{answer-wrong, answer-short, answer-fine}
-use Rattle.decoder.proofs.PlanOfList.{accepted-plan}
-use Rattle.decoder.specs.Answers.{listFault}
+use Rattle.decoder.proofs.PlanOfList.{fine-plan}
+use Rattle.list_judge.specs.Faults.{listFault}
 use Rattle.plan.proofs.Plans.{judged-fine, judged-wrong}
-use Rattle.table.proofs.Round.{accepted-sound}
 use Rattle.table.specs.Words.{tableOf}
 use lib.ListN.{length}
 use mathlib.Core.Option.{none}
@@ -46,10 +44,9 @@ priced-requires c κs =
     let m = i .before in
     let s = m .before .before .before .before .before .before in
     let a = s .args in
-    let t = tableOf (a .words .now) in
-    let sound = accepted-sound (a .words .now) t (s .pre .table) in (
+    let t = tableOf (a .words .now) in (
       s .pre,
-      accepted-plan (a .e .hard) (a .e .side) t (a .list .now) (list-exact (a .e .hard) (a .e .side) t (a .list .now) sound .0 (faultless m)),
+      fine-plan (a .e .hard) (a .e .side) t (a .list .now) (faultless m),
       omega (arith, s .pre .boxes, i .if1 .left),
     )
 

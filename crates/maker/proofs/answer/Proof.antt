@@ -1,6 +1,6 @@
 -- The plan's fault decides, then the room; without either the list is put, as long as there are variables.
 use Rattle.maker.proofs.Rows.{answer-wrong, answer-short, answer-fine}
-use Rattle.decoder.proofs.ListOfPlan.{made-long}
+use Rattle.maker.proofs.Long.{made-long}
 use Rattle.plan.proofs.Plans.{judged-fine, judged-wrong, fine-plan}
 use Rattle.plan.specs.Plan.{planFault}
 use Rattle.table.specs.Words.{tableOf}

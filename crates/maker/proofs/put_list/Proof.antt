@@ -1,7 +1,7 @@
 -- The three parts follow each other, and make up the list.
 use Rattle.maker.proofs.Rows.{made-parts}
-use Rattle.decoder.proofs.Judged.{variables-small}
-use Rattle.decoder.proofs.ListOfPlan.{values-long, steps-long}
+use Rattle.maker.proofs.Long.{values-long, steps-long}
+use Rattle.list_judge.proofs.Judged.{variables-small}
 use Rattle.numbers.proofs.Counted.{values-small}
 use Rattle.table.proofs.Words.{accepted-parts}
 use Rattle.table.specs.Words.{tableOf}

@@ -1,0 +1,4 @@
+pub mod Counted
+pub mod Loops
+pub mod Faults
+pub mod Judged
