@@ -1,2 +1,1 @@
-pub mod Writers
 pub mod Tallies

@@ -8,6 +8,8 @@ use Rattle.puts.proofs as puts
 use Rattle.clause.proofs as clause
 use Rattle.asked.proofs as asked
 use Rattle.numbers.proofs as numbers
+use Rattle.standard.proofs as standard
+use Rattle.regular.proofs as regular
 use Rattle.hard.proofs as hard
 use Rattle.ends.proofs as ends
 use Rattle.support.proofs as support
@@ -59,6 +61,21 @@ numbers-switch-base-decided = decided λ _ _ _ _ p q. search same
 
 pub numbers-switch-count-decided : Decided numbers.switch_count.ended numbers.switch_count.Reads.Post
 numbers-switch-count-decided = decided λ _ _ _ _ p q. search same
+
+pub standard-put-literal-decided : Decided standard.put_literal.ended standard.put_literal.Reads.Post
+standard-put-literal-decided = decided λ _ _ _ _ p q. search same
+
+pub standard-put-two-decided : Decided standard.put_two.ended standard.put_two.Reads.Post
+standard-put-two-decided = decided λ _ _ _ _ p q. search same
+
+pub standard-put-one-of-decided : Decided standard.put_one_of.ended standard.put_one_of.Reads.Post
+standard-put-one-of-decided = decided λ _ _ _ _ p q. search same
+
+pub standard-put-standard-decided : Decided standard.put_standard.ended standard.put_standard.Reads.Post
+standard-put-standard-decided = decided λ _ _ _ _ p q. search same
+
+pub regular-put-regular-decided : Decided regular.put_regular.ended regular.put_regular.Reads.Post
+regular-put-regular-decided = decided λ _ _ _ _ p q. search same
 
 pub hard-box-tally-decided : Decided hard.box_tally.ended hard.box_tally.Reads.Post
 hard-box-tally-decided = decided λ _ _ _ _ p q. search same
