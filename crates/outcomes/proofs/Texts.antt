@@ -3,6 +3,7 @@ use Rattle.outcomes.specs.Decided.{Decided}
 use Rattle.outcomes.proofs.Law.{same, decided}
 use Rattle.text_out.proofs as text-out
 use Rattle.scan.proofs as scan
+use Rattle.row_scan.proofs as row-scan
 use Rattle.answer_out.proofs as answer-out
 use Rattle.list_scan.proofs as list-scan
 use Rattle.wcnf.proofs as wcnf
@@ -36,8 +37,8 @@ scan-number-line-decided = decided λ _ _ _ _ p q. search same
 pub scan-word-line-decided : Decided scan.word_line.ended scan.word_line.Reads.Post
 scan-word-line-decided = decided λ _ _ _ _ p q. search same
 
-pub scan-row-line-decided : Decided scan.row_line.ended scan.row_line.Reads.Post
-scan-row-line-decided = decided λ _ _ _ _ p q. search same
+pub row-scan-row-line-decided : Decided row-scan.row_line.ended row-scan.row_line.Reads.Post
+row-scan-row-line-decided = decided λ _ _ _ _ p q. search same
 
 pub answer-out-put-value-decided : Decided answer-out.put_value.ended answer-out.put_value.Reads.Post
 answer-out-put-value-decided = decided λ _ _ _ _ p q. search same

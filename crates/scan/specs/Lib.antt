@@ -1,3 +1,2 @@
 pub mod Stands
 pub mod Lines
-pub mod Rows

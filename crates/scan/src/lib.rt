@@ -1,7 +1,4 @@
 // Text found in a slice of bytes at a place. The grammar is what is written (text_out): a line is found exactly where its text stands.
-mod row;
-
-pub use row::row_line;
 ghost use mathlib.Core.Path.{_≡_};
 ghost use Prim.Native.Nat.{_<_};
 ghost use lib.ListN.{drop};

@@ -10,7 +10,7 @@ use Rattle.scan.specs.Stands.{Stands}
 use Rattle.scan.specs.Lines.{lineAt}
 use Rattle.scan.proofs.Places.{stands-append, stands-split}
 use Rattle.scan.proofs.Lines.{exact-line}
-use Rattle.scan.proofs.Rows.{exact-row}
+use Rattle.row_scan.proofs.Rows.{exact-row}
 use Rattle.sheet.specs.Keys.{valuesKey, firstKey, secondKey, weightKey, allowKey}
 use Rattle.sheet.specs.Sheet.{valuesText, rowsText, headText, pairText}
 use Rattle.sheet_scan.specs.Found.{secondAt}

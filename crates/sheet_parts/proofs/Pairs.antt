@@ -8,9 +8,9 @@ use Rattle.lists.specs.Lists.{nth}
 use Rattle.table.specs.Table.{In}
 use Rattle.scan.specs.declared.Line.the-variants.{Found, Fault}
 use Rattle.scan.specs.Lines.{lineAt}
-use Rattle.scan.specs.Rows.{rowAt}
+use Rattle.row_scan.specs.Rows.{rowAt}
 use Rattle.scan.proofs.Lines.{exact-line, exact-moves}
-use Rattle.scan.proofs.Rows.{exact-row}
+use Rattle.row_scan.proofs.Rows.{exact-row}
 use Rattle.sheet.specs.Keys.{valuesKey, firstKey, weightKey, allowKey}
 use Rattle.sheet_scan.specs.Found.{secondAt}
 use Rattle.sheet_scan.proofs.Choices.{exact-second}

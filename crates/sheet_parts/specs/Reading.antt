@@ -9,7 +9,7 @@ use Rattle.table.specs.Table.{In}
 use Rattle.scan.specs.declared.Line.{Line}
 use Rattle.scan.specs.declared.Line.the-variants.{Found, Fault}
 use Rattle.scan.specs.Lines.{lineAt}
-use Rattle.scan.specs.Rows.{rowAt}
+use Rattle.row_scan.specs.Rows.{rowAt}
 use Rattle.sheet.specs.Keys.{valuesKey, firstKey, weightKey, allowKey}
 use Rattle.sheet_scan.specs.Found.{secondAt}
 use Rattle.sheet_parts.specs.declared.Step.{Step}

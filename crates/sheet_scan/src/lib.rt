@@ -3,7 +3,7 @@ use scan::Line;
 ghost use mathlib.Core.Path.{_≡_};
 ghost use Prim.Native.Nat.{_≤_};
 ghost use Rattle.scan.specs.Lines.{lineAt};
-ghost use Rattle.scan.specs.Rows.{rowAt};
+ghost use Rattle.row_scan.specs.Rows.{rowAt};
 ghost use Rattle.sheet.specs.Keys.{boxesKey, valuesKey, pairsKey, firstKey, weightKey, allowKey};
 ghost use Rattle.sheet_scan.specs.Found.{hardAt, sideAt, otherThan, secondAt};
 
@@ -81,5 +81,5 @@ pub fn allow_line(text: &[u8], at: usize, m: usize) -> Line
     requires { ⌜ m ≤ 32 ⌝ }
     ensures { λ r. ⌜ r ≡ rowAt (now (text .entry)) at allowKey m ⌝ }
 {
-    scan::row_line(text, at, b"allow=", m)
+    row_scan::row_line(text, at, b"allow=", m)
 }

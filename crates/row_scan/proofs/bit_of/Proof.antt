@@ -1,11 +1,11 @@
 -- The character is one of the row's.
-use Rattle.scan.proofs.Rows.{row-long, turn-bit}
+use Rattle.row_scan.proofs.Rows.{row-long, turn-bit}
 use lib.ListN.{drop, length-drop}
 use mathlib.Core.Path.{refl}
 use native.Mathlib.Omega.{arith}
 use borrow.Author.Needs.{needs}
-use Rattle.scan.proofs.row.bit_of.Statement.{statement}
-use Rattle.scan.proofs.row.bit_of.Tie as tie
+use Rattle.row_scan.proofs.bit_of.Statement.{statement}
+use Rattle.row_scan.proofs.bit_of.Tie as tie
 
 sub-i : tie.Need-sub-i
 sub-i c = search needs

@@ -1,11 +1,10 @@
-// A row of 0 and 1 characters, value 1 leftmost.
-use crate::Line;
-use crate::starts;
+// A row of 0 and 1 characters, value 1 leftmost, found in a slice of bytes at a place: the line of a pair that says which values go together.
+use scan::Line;
 ghost use mathlib.Core.Path.{_≡_};
 ghost use mathlib.Core.Bool.{true};
 ghost use Prim.Native.Nat.{_+_, _-_, _≤_};
 ghost use lib.ListN.{getD, drop};
-ghost use Rattle.scan.specs.Rows.{isRow, valueOf, rowAt};
+ghost use Rattle.row_scan.specs.Rows.{isRow, valueOf, rowAt};
 
 // Whether `m` characters 0 or 1 and a line feed stand at `at`.
 fn is_row(s: &[u8], at: usize, m: usize) -> bool
@@ -60,7 +59,7 @@ pub fn row_line(s: &[u8], at: usize, key: &[u8], m: usize) -> Line
     requires { ⌜ m ≤ 32 ⌝ }
     ensures { λ r. ⌜ r ≡ rowAt (now (s .entry)) at (now (key .entry)) m ⌝ }
 {
-    if starts(s, at, key) {
+    if scan::starts(s, at, key) {
         let past = at + key.len();
         if is_row(s, past, m) {
             let mask = mask_of(s, past, m);

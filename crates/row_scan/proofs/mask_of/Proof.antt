@@ -1,13 +1,13 @@
 -- From the last value down, the mask so far is that of the values passed.
-use Rattle.scan.proofs.Rows.{value-none, turn-value, turn-small, small-32}
-use Rattle.scan.specs.Rows.{valueOf}
+use Rattle.row_scan.proofs.Rows.{value-none, turn-value, turn-small, small-32}
+use Rattle.row_scan.specs.Rows.{valueOf}
 use lib.ListN.{drop}
 use mathlib.Core.Path.{_≡_, sym, ap, _∙_}
 use native.Mathlib.Nat.{sub-self}
 use native.Mathlib.Omega.{arith}
 use Prim.Native.Nat.{ℕ, _+_, _-_, _^_, _≤_, _<_}
-use Rattle.scan.proofs.row.mask_of.Statement.{statement}
-use Rattle.scan.proofs.row.mask_of.Tie as tie
+use Rattle.row_scan.proofs.mask_of.Statement.{statement}
+use Rattle.row_scan.proofs.mask_of.Tie as tie
 
 abbrev Inv-loop : tie.InvT-loop
 Inv-loop s at m j₀ v₀ j v = (v ≡ valueOf (m - j) (drop (at + j) s)) × (j ≤ m) × (v < 2 ^ (m - j))

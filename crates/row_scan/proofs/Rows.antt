@@ -9,17 +9,17 @@ use mathlib.Core.List.{List, [], _∷_, _++_}
 use lib.ListN.{length, drop, getD, drop-of-length-le, length-drop}
 use lib.Seq.{drop-cons, getD-drop, drop-drop}
 use lib.Arith.{digits-div, digits-mod}
 use Rattle.scan.specs.declared.Line.the-variants.{Found}
 use Rattle.scan.specs.Stands.{Stands, begins}
 use Rattle.scan.specs.Lines.{gate}
 use Rattle.scan.proofs.Places.{past, stands-of, and-both, begins-append, begins-split}
 use Rattle.scan.proofs.Lines.{gate-open, Exact}
 use lib.Pow.{pow-mono}
 use lib.Dec.{eqb, leb}
 use borrow.Author.Tests.{eqb-true, le-leb, lt-leb, leb-true}
 use Rattle.text_out.specs.Texts.{bitsOf, rowOf}
 use Rattle.text_out.proofs.Texts.{length-row, row-split}
-use Rattle.scan.specs.Rows.{isRow, valueOf, rowAt}
+use Rattle.row_scan.specs.Rows.{isRow, valueOf, rowAt}
 
 -- ---- each way that a step of reading goes, at index i of s
 module _ (s : List ℕ) (i : ℕ) where

@@ -1,12 +1,12 @@
 -- What is left is a row of the values left exactly if the whole is a row.
-use Rattle.scan.proofs.Rows.{row-none, row-last, row-low, row-high, row-step}
-use Rattle.scan.specs.Rows.{isRow}
+use Rattle.row_scan.proofs.Rows.{row-none, row-last, row-low, row-high, row-step}
+use Rattle.row_scan.specs.Rows.{isRow}
 use lib.ListN.{length, drop}
 use mathlib.Core.Path.{_≡_, refl, sym, _∙_}
 use native.Mathlib.Omega.{arith}
 use Prim.Native.Nat.{_-_}
-use Rattle.scan.proofs.row.is_row.Statement.{statement}
-use Rattle.scan.proofs.row.is_row.Tie as tie
+use Rattle.row_scan.proofs.is_row.Statement.{statement}
+use Rattle.row_scan.proofs.is_row.Tie as tie
 
 abbrev Inv-loop : tie.InvT-loop
 Inv-loop s at m left₀ i₀ left i = isRow m (drop at s) ≡ isRow left (drop i s)

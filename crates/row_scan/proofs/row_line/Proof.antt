@@ -1,15 +1,15 @@
 -- The key decides, then whether a row follows it; the mask is the row's.
 use Rattle.scan.proofs.Places.{begins-long}
-use Rattle.scan.proofs.Rows.{row-long}
-use Rattle.scan.specs.Rows.{rowAt}
+use Rattle.row_scan.proofs.Rows.{row-long}
+use Rattle.row_scan.specs.Rows.{rowAt}
 use Rattle.scan.specs.Lines.{gate}
 use Prim.Native.Nat.{_+_}
 use lib.ListN.{length, drop, length-drop}
 use native.Mathlib.Omega.{arith}
 use mathlib.Core.Path.{sym, _∙_}
 use borrow.Author.Needs.{needs}
-use Rattle.scan.proofs.row.row_line.Statement.{statement}
-use Rattle.scan.proofs.row.row_line.Tie as tie
+use Rattle.row_scan.proofs.row_line.Statement.{statement}
+use Rattle.row_scan.proofs.row_line.Tie as tie
 
 starts-requires : tie.Need-starts-requires
 starts-requires c κs = search needs
