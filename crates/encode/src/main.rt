@@ -125,7 +125,7 @@ fn print_pairs(
     while k < p {
         switch += 1;
         end = print_pair(words, side, switch, at, first, second, clauses, text, end);
-        at = measure::next_pair(words, at);
+        at = totals::next_pair(words, at);
         k += 1;
     }
     end

@@ -1,24 +1,15 @@
-// The exact lengths of a table's clause list, counted without writing anything, and the top of its text.
+// The exact lengths of a table's clause list, counted without writing anything, and what the scratch buffers must hold.
 use asked::Asked;
 use clause::Encoding;
-use clause::Hard;
 use clause::Side;
-use ends::Seen;
-use hard::Tally;
 use refusal::Refusal;
 use table::Counts;
 ghost use mathlib.Core.Path.{_≡_};
-ghost use Rattle.table.specs.Words.{tableOf, judged};
+ghost use Prim.Native.Nat.{max};
+ghost use Rattle.table.specs.Words.{tableOf, judged, pairAt, Accepted, PairStands};
 ghost use Rattle.table.specs.Answers.{Counted};
 ghost use Rattle.clause.specs.Encodings.{pickedOf};
-ghost use Prim.Native.Nat.{_+_, _≤_, max};
-ghost use Rattle.table.specs.Words.{boxCount, pairAt, pairNext, Accepted, PairStands};
-ghost use Rattle.clause.specs.declared.Hard.the-variants.{Standard};
-ghost use Rattle.clause.specs.Clause.{bare};
-ghost use Rattle.clause.specs.Ends.{one, two};
-ghost use Rattle.clause.specs.List.{hardPart, softPart};
-ghost use Rattle.clause.specs.Lengths.{top, longest, candidateLength};
-ghost use Rattle.hard.specs.Tallies.{tallyOf};
+ghost use Rattle.clause.specs.Lengths.{longest, candidateLength};
 ghost use Rattle.measure.specs.Measures.{lengthsFor, longestLists, scratchFor, measuredOf, neededOf, whichBy};
 
 // Variables, clauses, literals without and with their closing zeros, and the top of the text.
@@ -46,80 +37,6 @@ pub enum Needed {
     Refused(Refusal),
 }
 
-// A weight as the sums and the weights of the clauses have it.
-pub fn weight_as_sum(weight: u32) -> u64
-    ensures { λ r. ⌜ r ≡ weight ⌝ }
-{
-    weight as u64
-}
-
-// 1 plus the sum of the weights of all pairs.
-pub fn top_of(words: &[u32], counts: Counts) -> u64
-    requires { ⌜ Counted (now words) counts ⌝ }
-    ensures { λ r. ⌜ r ≡ top (tableOf (now (words .entry))) ⌝ }
-{
-    let p = counts.pairs;
-    let mut sum = 1;
-    let mut at = counts.boxes + 2;
-    let mut k = 0;
-    while k < p {
-        let pair = reader::pair_at(words, at);
-        sum += weight_as_sum(pair.weight);
-        at = pair.next;
-        k += 1;
-    }
-    sum
-}
-
-// What the boxes' clauses come to.
-pub fn hard_tally(words: &[u32], n: u32, hard: Hard) -> Tally
-    requires { ⌜ Accepted (now words) × (n ≡ boxCount (now words)) ⌝ }
-    ensures { λ r. ⌜ (r ≡ tallyOf (hardPart hard (tableOf (now (words .entry))))) × (r .clauses ≤ 8192) × (r .literals ≤ 25600) ⌝ }
-{
-    let mut clauses = 0;
-    let mut literals = 0;
-    let mut b = 1;
-    while b <= n {
-        let part = hard::box_tally(hard, table::size(words, b));
-        clauses += part.clauses;
-        literals += part.literals;
-        b += 1;
-    }
-    Tally { clauses, literals }
-}
-
-// The cursor before the next pair.
-pub fn next_pair(words: &[u32], at: usize) -> usize
-    requires { ⌜ PairStands (now words) at ⌝ }
-    ensures { λ r. ⌜ r ≡ pairNext (now (words .entry)) at ⌝ }
-{
-    let pair = reader::pair_at(words, at);
-    pair.next
-}
-
-// What the pairs' clauses come to, with either hard part alike.
-pub fn soft_tally(words: &[u32], counts: Counts, side: Side) -> Tally
-    requires { ⌜ Counted (now words) counts ⌝ }
-    ensures { λ r.
-        ⌜ (r ≡ tallyOf (bare (softPart Standard side (tableOf (now (words .entry))))))
-        × (r .clauses ≤ 65536)
-        × (r .literals ≤ 262144) ⌝ }
-{
-    let p = counts.pairs;
-    let mut clauses = 0;
-    let mut literals = 0;
-    let mut at = counts.boxes + 2;
-    let mut k = 0;
-    while k < p {
-        let part = pairs::pair_tally(words, side, at);
-        clauses += part.clauses;
-        literals += part.literals;
-        at = next_pair(words, at);
-        k += 1;
-    }
-    Tally { clauses, literals }
-}
-
 // The exact lengths over an accepted table.
 pub fn measure(words: &[u32], counts: Counts, e: Encoding) -> Lengths
     requires { ⌜ Counted (now words) counts ⌝ }
@@ -129,8 +46,8 @@ pub fn measure(words: &[u32], counts: Counts, e: Encoding) -> Lengths
     let side = e.side;
     let n = lists::word(words, 0);
     let p = lists::word(words, 1);
-    let hard = hard_tally(words, n, part);
-    let soft = soft_tally(words, counts, side);
+    let hard = totals::hard_tally(words, n, part);
+    let soft = totals::soft_tally(words, counts, side);
     let variables = numbers::switch_base(words, n, part) + numbers::switch_count(words, p, side);
     let clauses = hard.clauses + soft.clauses;
     let literals = hard.literals + soft.literals;
@@ -139,7 +56,7 @@ pub fn measure(words: &[u32], counts: Counts, e: Encoding) -> Lengths
         clauses,
         literals,
         entries: clauses + literals,
-        top: top_of(words, counts),
+        top: totals::top_of(words, counts),
     }
 }
 
@@ -185,7 +102,7 @@ fn longest_list(words: &[u32], counts: Counts, second: bool) -> usize
     let mut k = 0;
     while k < p {
         best = larger(best, candidate(words, at, second));
-        at = next_pair(words, at);
+        at = totals::next_pair(words, at);
         k += 1;
     }
     best

@@ -1,25 +1,26 @@
 -- Decided by the inputs: the lengths, the two parts of the clause list, and the encoder.
 use Rattle.outcomes.specs.Decided.{Decided}
 use Rattle.outcomes.proofs.Law.{same, decided}
+use Rattle.totals.proofs as totals
 use Rattle.measure.proofs as measure
 use Rattle.soft.proofs as soft
 use Rattle.parts.proofs as parts
 use Rattle.encoder.proofs as encoder
 
-pub measure-weight-as-sum-decided : Decided measure.weight_as_sum.ended measure.weight_as_sum.Reads.Post
-measure-weight-as-sum-decided = decided λ _ _ _ _ p q. search same
+pub totals-weight-as-sum-decided : Decided totals.weight_as_sum.ended totals.weight_as_sum.Reads.Post
+totals-weight-as-sum-decided = decided λ _ _ _ _ p q. search same
 
-pub measure-top-of-decided : Decided measure.top_of.ended measure.top_of.Reads.Post
-measure-top-of-decided = decided λ _ _ _ _ p q. search same
+pub totals-top-of-decided : Decided totals.top_of.ended totals.top_of.Reads.Post
+totals-top-of-decided = decided λ _ _ _ _ p q. search same
 
-pub measure-hard-tally-decided : Decided measure.hard_tally.ended measure.hard_tally.Reads.Post
-measure-hard-tally-decided = decided λ _ _ _ _ p q. search same
+pub totals-hard-tally-decided : Decided totals.hard_tally.ended totals.hard_tally.Reads.Post
+totals-hard-tally-decided = decided λ _ _ _ _ p q. search same
 
-pub measure-next-pair-decided : Decided measure.next_pair.ended measure.next_pair.Reads.Post
-measure-next-pair-decided = decided λ _ _ _ _ p q. search same
+pub totals-next-pair-decided : Decided totals.next_pair.ended totals.next_pair.Reads.Post
+totals-next-pair-decided = decided λ _ _ _ _ p q. search same
 
-pub measure-soft-tally-decided : Decided measure.soft_tally.ended measure.soft_tally.Reads.Post
-measure-soft-tally-decided = decided λ _ _ _ _ p q. search same
+pub totals-soft-tally-decided : Decided totals.soft_tally.ended totals.soft_tally.Reads.Post
+totals-soft-tally-decided = decided λ _ _ _ _ p q. search same
 
 pub measure-measure-decided : Decided measure.measure.ended measure.measure.Reads.Post
 measure-measure-decided = decided λ _ _ _ _ p q. search same

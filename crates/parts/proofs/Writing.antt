@@ -24,7 +24,7 @@ use Rattle.clause.proofs.Turns.{hardFrom, hard-all, softAhead, soft-all, soft-e
 use Rattle.clause.proofs.Lengths.{entriesOf-none}
 use Rattle.hard.specs.declared.Tally.{Tally}
 use Rattle.pairs.proofs.Sight.{pair-tally-is}
-use Rattle.measure.proofs.Counting.{pair-any}
+use Rattle.totals.proofs.Counting.{pair-any}
 use Rattle.parts.specs.Parts.{pairCount}
 
 pub box-is : (h : Hard) (ws : List ℕ) (b v s m : ℕ) → BoxStands ws b → v ≡ valueBase (tableOf ws) b → s ≡ stepBase (tableOf ws) b → m ≡ sizeAt ws b

@@ -71,7 +71,7 @@ fn weigh_pair(words: &[u32], side: Side, at: usize, out: &mut [u64], cursor: usi
     puts::put_weights(
         out,
         cursor,
-        measure::weight_as_sum(pair.weight),
+        totals::weight_as_sum(pair.weight),
         tally.clauses,
     )
 }
@@ -87,7 +87,7 @@ pub fn weigh_soft(words: &[u32], counts: Counts, side: Side, out: &mut [u64], fr
     let mut k = 0;
     while k < p {
         cursor = weigh_pair(words, side, at, out, cursor);
-        at = measure::next_pair(words, at);
+        at = totals::next_pair(words, at);
         k += 1;
     }
     cursor
@@ -124,7 +124,7 @@ pub fn put_soft(
     while k < p {
         switch += 1;
         cursor = soft::put_pair(words, side, switch, at, first, second, out, cursor);
-        at = measure::next_pair(words, at);
+        at = totals::next_pair(words, at);
         k += 1;
     }
     cursor

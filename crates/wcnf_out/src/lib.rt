@@ -90,7 +90,7 @@ fn put_pairs(
     while k < p {
         switch += 1;
         end = wcnf_parts::put_pair(words, side, switch, at, first, second, clauses, text, end);
-        at = measure::next_pair(words, at);
+        at = totals::next_pair(words, at);
         k += 1;
     }
     end

@@ -18,7 +18,7 @@ use Rattle.clause.specs.Hard.{boxClauses}
 use Rattle.clause.specs.Soft.{soft}
 use Rattle.clause.proofs.Lengths.{soft-room}
 use Rattle.pairs.proofs.Sight.{pair-small}
-use Rattle.measure.proofs.Counting.{box-few}
+use Rattle.totals.proofs.Counting.{box-few}
 use Rattle.soft.proofs.Parts.{begins}
 use Rattle.wcnf.specs.Wcnf.{linesOf}
 use Rattle.wcnf.specs.Entries.{entriesText}

@@ -1,5 +1,5 @@
 -- The list of the end that is asked for.
-use Rattle.measure.proofs.Counting.{candidate-is}
+use Rattle.measure.proofs.Measuring.{candidate-is}
 use Rattle.pairs.proofs.Sight.{Sees, sees}
 use Rattle.pairs.specs.Pairs.{turnedOf}
 use Rattle.clause.specs.Ends.{one, two}

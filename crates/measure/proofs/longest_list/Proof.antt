@@ -1,5 +1,5 @@
 -- The longest so far and the longest ahead make the longest of all.
-use Rattle.measure.proofs.Counting.{longest-turn, longest-last, longest-all}
+use Rattle.measure.proofs.Measuring.{longest-turn, longest-last, longest-all}
 use Rattle.measure.specs.Measures.{whichBy}
 use Rattle.clause.specs.Lengths.{longest, candidateLength}
 use Rattle.table.proofs.Tables.{counted-start}

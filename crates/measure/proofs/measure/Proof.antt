@@ -1,5 +1,5 @@
 -- Each number is counted by one of the functions above.
-use Rattle.measure.proofs.Counting.{lengths-made}
+use Rattle.measure.proofs.Measuring.{lengths-made}
 use Rattle.numbers.proofs.Counted.{bases-few, switches-few}
 use Rattle.table.specs.Words.{tableOf}
 use Rattle.table.proofs.Words.{accepted-parts}

@@ -1,6 +1,6 @@
 -- What the boxes ahead have is still owed.
 use Rattle.parts.proofs.Writing.{hard-start}
-use Rattle.measure.proofs.Counting.{box-tally-is}
+use Rattle.totals.proofs.Counting.{box-tally-is}
 use Rattle.hard.specs.Tallies.{boxTally}
 use Rattle.hard.specs.declared.Tally.{Tally}
 use Rattle.clause.specs.Hard.{boxClauses}

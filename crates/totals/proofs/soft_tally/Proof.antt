@@ -1,5 +1,5 @@
 -- What is counted and what the pairs ahead come to make up the soft part.
-use Rattle.measure.proofs.Counting.{Makes, makes-all, makes-turn, makes-none, few-part}
+use Rattle.totals.proofs.Counting.{Makes, makes-all, makes-turn, makes-none, few-part}
 use Rattle.pairs.proofs.Sight.{pair-tally-is, pair-room}
 use Rattle.clause.proofs.Turns.{softAhead, bare-turn, soft-end, soft-all}
 use Rattle.clause.specs.List.{softPart}
@@ -13,8 +13,8 @@ use mathlib.Core.Path.{_≡_, sym, ap, _∙_}
 use native.Mathlib.Nat.{sub-zero}
 use native.Mathlib.Omega.{arith}
 use borrow.Author.Needs.{needs}
-use Rattle.measure.proofs.soft_tally.Statement.{statement}
-use Rattle.measure.proofs.soft_tally.Tie as tie
+use Rattle.totals.proofs.soft_tally.Statement.{statement}
+use Rattle.totals.proofs.soft_tally.Tie as tie
 
 abbrev Inv-loop : tie.InvT-loop
 Inv-loop words side p clauses₀ literals₀ at₀ k₀ clauses literals at k =

@@ -2,8 +2,8 @@
 use Rattle.reader.specs.declared.PairHead.{PairHead}
 use mathlib.Core.Path.{ap}
 use borrow.Author.Needs.{needs}
-use Rattle.measure.proofs.next_pair.Statement.{statement}
-use Rattle.measure.proofs.next_pair.Tie as tie
+use Rattle.totals.proofs.next_pair.Statement.{statement}
+use Rattle.totals.proofs.next_pair.Tie as tie
 
 pair-at-requires : tie.Need-pair-at-requires
 pair-at-requires c κs = search needs

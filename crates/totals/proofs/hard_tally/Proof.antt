@@ -1,5 +1,5 @@
 -- What is counted and what the boxes ahead come to make up the hard part.
-use Rattle.measure.proofs.Counting.{Makes, makes-all, makes-turn, makes-none, box-tally-is, box-few, few-part}
+use Rattle.totals.proofs.Counting.{Makes, makes-all, makes-turn, makes-none, box-tally-is, box-few, few-part}
 use Rattle.hard.specs.Tallies.{boxTally}
 use Rattle.clause.proofs.Turns.{hardFrom, hard-turn, hard-end, hard-all}
 use Rattle.clause.specs.List.{hardPart}
@@ -10,8 +10,8 @@ use Prim.Native.Nat.{ℕ, _+_, _-_, _*_, _≤_}
 use mathlib.Core.Path.{sym, ap, _∙_}
 use native.Mathlib.Omega.{arith}
 use borrow.Author.Needs.{needs}
-use Rattle.measure.proofs.hard_tally.Statement.{statement}
-use Rattle.measure.proofs.hard_tally.Tie as tie
+use Rattle.totals.proofs.hard_tally.Statement.{statement}
+use Rattle.totals.proofs.hard_tally.Tie as tie
 
 abbrev Inv-loop : tie.InvT-loop
 Inv-loop words n hard clauses₀ literals₀ b₀ clauses literals b =

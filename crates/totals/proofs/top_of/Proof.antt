@@ -1,5 +1,5 @@
 -- What is summed and the weights of the pairs ahead make up the top.
-use Rattle.measure.proofs.Counting.{weightOf, top-all, weight-light}
+use Rattle.totals.proofs.Counting.{weightOf, top-all, weight-light}
 use Rattle.clause.specs.Lengths.{top}
 use Rattle.reader.specs.declared.PairHead.{PairHead}
 use Rattle.table.proofs.Tables.{counted-start, sumAhead, sum-turn, sum-last}
@@ -10,8 +10,8 @@ use mathlib.Core.Path.{_≡_, sym, ap}
 use native.Mathlib.Nat.{sub-zero}
 use native.Mathlib.Omega.{arith}
 use borrow.Author.Needs.{needs}
-use Rattle.measure.proofs.top_of.Statement.{statement}
-use Rattle.measure.proofs.top_of.Tie as tie
+use Rattle.totals.proofs.top_of.Statement.{statement}
+use Rattle.totals.proofs.top_of.Tie as tie
 
 abbrev Inv-loop : tie.InvT-loop
 Inv-loop words p sum₀ at₀ k₀ sum at k =
