@@ -4,40 +4,21 @@ use mathlib.Core.Path.{_≡_}
 use mathlib.Core.Option.{Option, none, some}
 use mathlib.Core.List.{List, [], _∷_}
 use lib.ListN.{length}
-use lib.Seq.{sets}
 use lib.IntN.{ℤ}
-use lib.Dec.{leb}
-use Rattle.lists.specs.Firsts.{_then_, unless}
 use Rattle.refusal.specs.declared.Refusal.{Refusal}
-use Rattle.refusal.specs.declared.Refusal.the-variants.{Room}
 use Rattle.refusal.specs.Refusals.{Says, gives, refusalSays}
 use Rattle.table.specs.Table.{Table}
 use Rattle.table.specs.Words.{Outcome}
 use Rattle.clause.specs.declared.Encoding.{Encoding}
-use Rattle.clause.specs.declared.Side.{Side}
-use Rattle.clause.specs.declared.Side.the-variants.{Direct, Support, First, Literals, Score}
 use Rattle.clause.specs.declared.Picked.{Picked}
-use Rattle.clause.specs.Clause.{entries, weights}
 use Rattle.asked.specs.Asked.{over}
-use Rattle.clause.specs.List.{clauses}
-use Rattle.clause.specs.Lengths.{clauseCount, entryCount}
-use Rattle.puts.specs.Signed.{zeros}
-use Rattle.measure.specs.declared.Lengths.{Lengths}
-use Rattle.measure.specs.declared.Scratch.{Scratch}
 use Rattle.measure.specs.Measures.{lengthsFor, scratchFor}
-use Rattle.encoder.specs.declared.Fit.{Fit}
-use Rattle.encoder.specs.declared.Written.{Written}
+use Rattle.room.specs.Room.{clausesFault}
+use Rattle.whole.specs.Scratch.{scratchLeft}
+use Rattle.clauses_out.specs.Listed.{writtenOf, literalsWith, weightsWith}
 use Rattle.encoder.specs.declared.Encoded.{Encoded}
 
 -- ---- the judgement
-
--- 9 with the length needed, for the first buffer that is too short: the first scratch, the second, literals, weights
-unfoldable pub roomFault : Lengths → Scratch → (first second literals weights : ℕ) → Option Refusal
-roomFault n s first second literals weights =
-    unless (leb (s .first) first) (Room (s .first))
-    then unless (leb (s .second) second) (Room (s .second))
-    then unless (leb (n .entries) literals) (Room (n .entries))
-    then unless (leb (n .clauses) weights) (Room (n .clauses))
 
 -- what is judged: 8, then 1 to 7, then 9; else the encoding and the table
 pub data Verdict : Type 0 where
@@ -50,20 +31,12 @@ roomed (some f) e t = no f
 
 abbrev pub judgedRoom : Encoding → Table → (first second literals : List ℤ) → (weights : List ℕ) → Verdict
 judgedRoom e t first second literals weights =
-    roomed (roomFault (lengthsFor e t) (scratchFor (e .side) t) (length first) (length second) (length literals) (length weights)) e t
+    roomed (clausesFault (lengthsFor e t) (scratchFor (e .side) t) (length first) (length second) (length literals) (length weights)) e t
 
 abbrev pub verdict : Picked → Outcome → (first second literals : List ℤ) → (weights : List ℕ) → Verdict
 verdict p o first second literals weights = over p o no (λ e t. judgedRoom e t first second literals weights)
 
--- the judgement of the room, as the code has it
-abbrev pub fitOf : Option Refusal → Fit
-fitOf none = Fit.Enough
-fitOf (some f) = Fit.Short f
-
 -- ---- the outcome
-
-abbrev pub writtenOf : Encoding → Table → Written
-writtenOf e t = record { literals = entryCount (e .hard) (e .side) t; weights = clauseCount (e .hard) (e .side) t }
 
 abbrev pub encodedOf : Verdict → Encoded
 encodedOf (no f) = Encoded.Refused f
@@ -72,19 +45,11 @@ encodedOf (yes e t) = Encoded.Written (writtenOf e t)
 -- the literals from the start, and the rest as it was
 abbrev pub literalsAfter : Verdict → List ℤ → List ℤ
 literalsAfter (no f) old = old
-literalsAfter (yes e t) old = sets old 0 (entries (clauses (e .hard) (e .side) t))
+literalsAfter (yes e t) old = literalsWith e t old
 
 abbrev pub weightsAfter : Verdict → List ℕ → List ℕ
 weightsAfter (no f) old = old
-weightsAfter (yes e t) old = sets old 0 (weights (clauses (e .hard) (e .side) t))
-
--- zero whole on the sides that choose, untouched on the others
-abbrev pub scratchLeft : Side → List ℤ → List ℤ
-scratchLeft Direct old = old
-scratchLeft Support old = old
-scratchLeft First old = old
-scratchLeft Literals old = zeros old
-scratchLeft Score old = zeros old
+weightsAfter (yes e t) old = weightsWith e t old
 
 abbrev pub scratchAfter : Verdict → List ℤ → List ℤ
 scratchAfter (no f) old = old

@@ -1,10 +1,13 @@
--- Decided by the inputs: the lengths, the two parts of the clause list, and the encoder.
+-- Decided by the inputs: the lengths, the clause list in its parts and whole, the room for it, and the encoder.
 use Rattle.outcomes.specs.Decided.{Decided}
 use Rattle.outcomes.proofs.Law.{same, decided}
 use Rattle.totals.proofs as totals
 use Rattle.measure.proofs as measure
 use Rattle.soft.proofs as soft
 use Rattle.parts.proofs as parts
+use Rattle.whole.proofs as whole
+use Rattle.clauses_out.proofs as clauses-out
+use Rattle.room.proofs as room
 use Rattle.encoder.proofs as encoder
 
 pub totals-weight-as-sum-decided : Decided totals.weight_as_sum.ended totals.weight_as_sum.Reads.Post
@@ -52,8 +55,23 @@ parts-weigh-soft-decided = decided λ _ _ _ _ p q. search same
 pub parts-put-soft-decided : Decided parts.put_soft.ended parts.put_soft.Reads.Post
 parts-put-soft-decided = decided λ _ _ _ _ p q. search same
 
-pub encoder-tidy-decided : Decided encoder.tidy.ended encoder.tidy.Reads.Post
-encoder-tidy-decided = decided λ _ _ _ _ p q. search same
+pub whole-put-all-decided : Decided whole.put_all.ended whole.put_all.Reads.Post
+whole-put-all-decided = decided λ _ _ _ _ p q. search same
+
+pub whole-weigh-all-decided : Decided whole.weigh_all.ended whole.weigh_all.Reads.Post
+whole-weigh-all-decided = decided λ _ _ _ _ p q. search same
+
+pub whole-tidy-decided : Decided whole.tidy.ended whole.tidy.Reads.Post
+whole-tidy-decided = decided λ _ _ _ _ p q. search same
+
+pub clauses-out-write-all-decided : Decided clauses-out.write_all.ended clauses-out.write_all.Reads.Post
+clauses-out-write-all-decided = decided λ _ _ _ _ p q. search same
+
+pub room-for-clauses-decided : Decided room.for_clauses.ended room.for_clauses.Reads.Post
+room-for-clauses-decided = decided λ _ _ _ _ p q. search same
+
+pub room-for-text-decided : Decided room.for_text.ended room.for_text.Reads.Post
+room-for-text-decided = decided λ _ _ _ _ p q. search same
 
 pub encoder-encode-decided : Decided encoder.encode.ended encoder.encode.Reads.Post
 encoder-encode-decided = decided λ _ _ _ _ p q. search same

@@ -8,6 +8,7 @@ use Rattle.answer_out.proofs as answer-out
 use Rattle.list_scan.proofs as list-scan
 use Rattle.wcnf.proofs as wcnf
 use Rattle.wcnf_parts.proofs as wcnf-parts
+use Rattle.wcnf_text.proofs as wcnf-text
 use Rattle.wcnf_out.proofs as wcnf-out
 
 pub text-out-put-byte-decided : Decided text-out.put_byte.ended text-out.put_byte.Reads.Post
@@ -72,6 +73,12 @@ wcnf-parts-put-box-decided = decided λ _ _ _ _ p q. search same
 
 pub wcnf-parts-put-pair-decided : Decided wcnf-parts.put_pair.ended wcnf-parts.put_pair.Reads.Post
 wcnf-parts-put-pair-decided = decided λ _ _ _ _ p q. search same
+
+pub wcnf-text-put-text-decided : Decided wcnf-text.put_text.ended wcnf-text.put_text.Reads.Post
+wcnf-text-put-text-decided = decided λ _ _ _ _ p q. search same
+
+pub wcnf-text-text-length-decided : Decided wcnf-text.text_length.ended wcnf-text.text_length.Reads.Post
+wcnf-text-text-length-decided = decided λ _ _ _ _ p q. search same
 
 pub wcnf-out-write-wcnf-decided : Decided wcnf-out.write_wcnf.ended wcnf-out.write_wcnf.Reads.Post
 wcnf-out-write-wcnf-decided = decided λ _ _ _ _ p q. search same

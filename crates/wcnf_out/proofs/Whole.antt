@@ -15,9 +15,9 @@ use Rattle.clause.specs.Lengths.{clauseCount, top}
 use Rattle.clause.specs.Numbers.{variables}
 use Rattle.wcnf.specs.Wcnf.{headerText, linesOf, bodyText}
 use Rattle.wcnf.proofs.Parts.{lines-append, lines-none, body-part, body-none}
+use Rattle.wcnf_text.specs.Text.{textOf}
+use Rattle.wcnf_text.proofs.Texts.{shown-own, text-parts}
 use Rattle.wcnf_out.specs.Parts.{boxText, pairsText, inParts}
-use Rattle.wcnf_out.specs.Written.{textOf}
-use Rattle.wcnf_out.proofs.Texts.{shown-own, text-parts}
 
 module _ (h : Hard) (s : Side) (t : Table) where
   boxes-lines : (bs : List ℕ) → linesOf (top t) (flatMap (boxClauses h t) bs) ≡ flatMap (boxText h t) bs

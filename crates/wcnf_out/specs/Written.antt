@@ -1,40 +1,24 @@
 -- What writing WCNF text answers and leaves: 8, then 1 to 7, then 9 for the first scratch, the second, the text; else the text.
 use Prim.Native.Nat.{ℕ}
 use mathlib.Core.Path.{_≡_}
-use mathlib.Core.Option.{Option}
 use mathlib.Core.List.{List, [], _∷_}
 use lib.ListN.{length}
 use lib.Seq.{sets}
 use lib.IntN.{ℤ}
-use lib.Dec.{leb}
-use Rattle.lists.specs.Firsts.{_then_, unless}
-use Rattle.refusal.specs.declared.Refusal.{Refusal}
-use Rattle.refusal.specs.declared.Refusal.the-variants.{Room}
 use Rattle.refusal.specs.Refusals.{Says, gives, refusalSays}
 use Rattle.table.specs.Table.{Table}
 use Rattle.table.specs.Words.{Outcome}
 use Rattle.clause.specs.declared.Encoding.{Encoding}
 use Rattle.clause.specs.declared.Picked.{Picked}
-use Rattle.clause.specs.Ends.{one, two}
-use Rattle.clause.specs.Lengths.{scratchLength}
 use Rattle.asked.specs.Asked.{over}
+use Rattle.measure.specs.Measures.{scratchFor}
+use Rattle.room.specs.Room.{textFault}
 use Rattle.encoder.specs.Encoded.{Verdict, no, yes, roomed, scratchAfter}
-use Rattle.wcnf.specs.Wcnf.{wcnfText}
+use Rattle.wcnf_text.specs.Text.{textOf}
 use Rattle.wcnf_out.specs.declared.Written.{Written}
 
--- the text of a table
-abbrev pub textOf : Encoding → Table → List ℕ
-textOf e t = wcnfText (e .hard) (e .side) t
-
--- 9 with the length needed, for the first buffer that is too short
-unfoldable pub roomFault : Encoding → Table → (first second text : ℕ) → Option Refusal
-roomFault e t first second text =
-    unless (leb (scratchLength (e .side) one t) first) (Room (scratchLength (e .side) one t))
-    then unless (leb (scratchLength (e .side) two t) second) (Room (scratchLength (e .side) two t))
-    then unless (leb (length (textOf e t)) text) (Room (length (textOf e t)))
-
 abbrev pub judgedRoom : Encoding → Table → (first second text : ℕ) → Verdict
-judgedRoom e t first second text = roomed (roomFault e t first second text) e t
+judgedRoom e t first second text = roomed (textFault (scratchFor (e .side) t) (length (textOf e t)) first second text) e t
 
 abbrev pub verdict : Picked → Outcome → (first second text : ℕ) → Verdict
 verdict p o first second text = over p o no (λ e t. judgedRoom e t first second text)

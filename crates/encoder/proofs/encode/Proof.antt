@@ -1,5 +1,5 @@
 -- What is asked for is judged, and what is left is written.
-use Rattle.encoder.proofs.Whole.{refusal-left}
+use Rattle.encoder.proofs.Judged.{refusal-left}
 use Rattle.encoder.specs.Encoded.{no, judgedRoom}
 use Rattle.asked.proofs.Answers.{asked-refused, asked-ready}
 use Rattle.table.specs.Words.{judged}

@@ -1,9 +1,10 @@
 -- The room is judged by the counts that were measured.
-use Rattle.encoder.proofs.Whole.{fit-enough, fit-short, enough-holds, refusal-left, room-as-judged}
+use Rattle.encoder.proofs.Judged.{room-as-judged, refusal-left, list-left}
+use Rattle.room.proofs.Fits.{fit-enough, fit-short, clauses-hold}
 use Rattle.clause.specs.declared.Encoding.{Encoding}
 use mathlib.Core.List.{List}
 use lib.IntN.{ℤ}
-use Rattle.encoder.specs.Encoded.{roomFault}
+use Rattle.room.specs.Room.{clausesFault}
 use Rattle.measure.specs.Measures.{lengthsFor, scratchFor}
 use Rattle.measure.specs.declared.Lengths.{Lengths}
 use Rattle.table.specs.Words.{tableOf}
@@ -21,7 +22,7 @@ use Rattle.encoder.proofs.encode_checked.Tie as tie
 abbrev fault : Encoding → List ℕ → (first second literals : List ℤ) → List ℕ → Option Refusal
 fault e ws first second literals weights =
     let t = tableOf ws in
-    roomFault (lengthsFor e t) (scratchFor (e .side) t) (length first) (length second) (length literals) (length weights)
+    clausesFault (lengthsFor e t) (scratchFor (e .side) t) (length first) (length second) (length literals) (length weights)
 
 measure-requires : tie.Need-measure-requires
 measure-requires c κs = search needs
@@ -29,8 +30,8 @@ measure-requires c κs = search needs
 scratch-over-requires : tie.Need-scratch-over-requires
 scratch-over-requires c κs = search needs
 
-room-requires : tie.Need-room-requires
-room-requires c κs = search needs
+for-clauses-requires : tie.Need-for-clauses-requires
+for-clauses-requires c κs = search needs
 
 enum-known-f : tie.Need-enum-known-f
 enum-known-f c = search needs
@@ -40,24 +41,26 @@ enum-told c = search needs
 
 write-all-requires : tie.Need-write-all-requires
 write-all-requires c κs =
-    let s = c .before .before .before .before .before .before .before .before .before .before .before in
-    let m = c .before .before .before .before .before .before .before .before .measure in
-    let k = c .before .before .before .before .before .before .before .scratch-over in
+    let told = c .before .before .before .before in
+    let room = told .before .before in
+    let k = room .before .scratch-over in
+    let m = room .before .before .measure in
+    let s = room .before .before .before .before .before in
     let short = fault (s .args .e) (s .args .words .now) (s .args .first .now) (s .args .second .now) (s .args .literals .now) (s .args .weights .now) in
-    let e = fit-enough short (sym (room-as-judged _ _ _ _ (m .ensures) (k .ensures) (c .before .before .before .before .before .before .room .ensures))
-    ∙ c .before .before .before .before .enum-told .given .1) in
-    let holds = enough-holds _ _ _ _ _ _ e in
+    let e = fit-enough short (sym (room-as-judged _ _ _ _ (m .ensures) (k .ensures) (room .for-clauses .ensures)) ∙ told .enum-told .given .1) in
+    let holds = clauses-hold _ _ _ _ _ _ e in
     let long = ap (λ (n : Lengths). n .entries) (m .ensures) in
     let many = ap (λ (n : Lengths). n .clauses) (m .ensures) in
     (s .pre, holds .0, holds .1, omega (arith, long, m .ok), omega (arith, many, m .ok))
 
 returns : tie.Need-returns
 returns c =
-    let s = c .before .before .before .before .before .before .before .before in
-    let m = c .before .before .before .before .before .measure in
-    let k = c .before .before .before .before .scratch-over in
+    let room = c .before .before .before in
+    let k = room .before .scratch-over in
+    let m = room .before .before .measure in
+    let s = room .before .before .before .before .before in
     let short = fault (s .args .e) (s .args .words .now) (s .args .first .now) (s .args .second .now) (s .args .literals .now) (s .args .weights .now) in
-    let e = fit-short short (sym (room-as-judged _ _ _ _ (m .ensures) (k .ensures) (c .before .before .before .room .ensures)) ∙ c .before .f .given .1) in
+    let e = fit-short short (sym (room-as-judged _ _ _ _ (m .ensures) (k .ensures) (room .for-clauses .ensures)) ∙ c .before .f .given .1) in
     rw e (refusal-left _ _ _ _ _)
 
 same-length : tie.Need-same-length
@@ -74,14 +77,15 @@ same-length-4 c = search needs
 
 returns-2 : tie.Need-returns-2
 returns-2 c =
-    let s = c .before .before .before .before .before .before .before .before .before .before .before .before .before .before .before .before .before in
-    let m = c .before .before .before .before .before .before .before .before .before .before .before .before .before .before .measure in
-    let k = c .before .before .before .before .before .before .before .before .before .before .before .before .before .scratch-over in
+    let wrote = c .before .before .before .before .before in
+    let told = wrote .before .before .before .before .before in
+    let room = told .before .before in
+    let k = room .before .scratch-over in
+    let m = room .before .before .measure in
+    let s = room .before .before .before .before .before in
     let short = fault (s .args .e) (s .args .words .now) (s .args .first .now) (s .args .second .now) (s .args .literals .now) (s .args .weights .now) in
-    let e = fit-enough short (sym (room-as-judged _ _ _ _ (m .ensures) (k .ensures)
-    (c .before .before .before .before .before .before .before .before .before .before .before .before .room .ensures))
-    ∙ c .before .before .before .before .before .before .before .before .before .before .enum-told .given .1) in
-    rw e (c .before .before .before .before .before .write-all .ensures)
+    let e = fit-enough short (sym (room-as-judged _ _ _ _ (m .ensures) (k .ensures) (room .for-clauses .ensures)) ∙ told .enum-told .given .1) in
+    rw e (list-left (s .args .e) (tableOf (s .args .words .now)) (wrote .write-all .ensures))
 
 pub encode-checked-spec : {M : Type 1} → statement M
 encode-checked-spec =
@@ -89,7 +93,7 @@ encode-checked-spec =
     (tie.spec
     measure-requires
     scratch-over-requires
-    room-requires
+    for-clauses-requires
     enum-known-f
     enum-told
     write-all-requires

@@ -1,12 +1,27 @@
 -- The room is judged by the numbers that were measured.
-use Rattle.wcnf_out.proofs.Answers.{first-short, second-short, text-short, long-enough}
-use Rattle.measure.specs.declared.Scratch.{Scratch}
+use Rattle.wcnf_out.proofs.Answers.{room-as-judged, refusal-left}
+use Rattle.wcnf_text.specs.Text.{textOf}
+use Rattle.room.specs.Room.{textFault}
+use Rattle.room.proofs.Fits.{fit-enough, fit-short, text-holds}
+use Rattle.measure.specs.Measures.{scratchFor}
+use Rattle.clause.specs.declared.Encoding.{Encoding}
 use Rattle.table.specs.Words.{tableOf}
-use mathlib.Core.Path.{ap}
-use native.Mathlib.Omega.{arith}
+use Rattle.refusal.specs.declared.Refusal.{Refusal}
+use lib.ListN.{length}
+use lib.IntN.{ℤ}
+use Prim.Native.Nat.{ℕ}
+use mathlib.Core.List.{List}
+use mathlib.Core.Option.{Option}
+use mathlib.Core.Path.{sym, _∙_}
 use borrow.Author.Needs.{needs}
 use Rattle.wcnf_out.proofs.write_checked.Statement.{statement}
 use Rattle.wcnf_out.proofs.write_checked.Tie as tie
+
+-- the judgement of the room over the measured numbers
+abbrev fault : Encoding → List ℕ → (first second : List ℤ) → List ℕ → Option Refusal
+fault e ws first second text =
+    let t = tableOf ws in
+    textFault (scratchFor (e .side) t) (length (textOf e t)) (length first) (length second) (length text)
 
 scratch-over-requires : tie.Need-scratch-over-requires
 scratch-over-requires c κs = search needs
@@ -17,35 +32,38 @@ measure-requires c κs = search needs
 text-length-requires : tie.Need-text-length-requires
 text-length-requires c κs = search needs
 
-returns : tie.Need-returns
-returns c =
-    let k = c .before .before .before .before in
-    let s = k .before .before .before in
-    first-short (s .args .e) (tableOf (s .args .words .now)) _ _ _ (k .scratch-over .ensures) (c .if1 .taken)
+for-text-requires : tie.Need-for-text-requires
+for-text-requires c κs = search needs
 
-returns-2 : tie.Need-returns-2
-returns-2 c =
-    let k = c .before .before .before .before .before .before in
-    let s = k .before .before .before in
-    second-short (s .args .e) (tableOf (s .args .words .now)) _ _ _ (k .scratch-over .ensures) (c .before .before .if1 .left) (c .if2 .taken)
+enum-known-f : tie.Need-enum-known-f
+enum-known-f c = search needs
 
-returns-3 : tie.Need-returns-3
-returns-3 c =
-    let m = c .before .before .before .before .before in
-    let k = m .before .before in
-    let s = k .before .before .before in
-    text-short (s .args .e) (tableOf (s .args .words .now)) _ _ _ (k .scratch-over .ensures) (m .text-length .ensures)
-    (c .before .before .before .if1 .left) (c .before .if2 .left) (c .if3 .taken)
+enum-told : tie.Need-enum-told
+enum-told c = search needs
 
 write-text-requires : tie.Need-write-text-requires
 write-text-requires c κs =
-    let t = c .before .before .before in
-    let m = t .before .before .before .before .before in
-    let k = m .before .before in
-    let s = k .before .before .before in
-    let first = ap (λ (k : Scratch). k .first) (k .scratch-over .ensures) in
-    let second = ap (λ (k : Scratch). k .second) (k .scratch-over .ensures) in
-    (s .pre, m .before .measure .ensures, omega (arith, first, t .before .before .before .if1 .left), omega (arith, second, t .before .if2 .left))
+    let told = c .before .before .before in
+    let room = told .before .before in
+    let long = room .before in
+    let scratch = long .before .before in
+    let s = scratch .before .before .before in
+    let short = fault (s .args .e) (s .args .words .now) (s .args .first .now) (s .args .second .now) (s .args .text .now) in
+    let e = fit-enough short (sym (room-as-judged _ _ _ (scratch .scratch-over .ensures) (long .text-length .ensures) (room .for-text .ensures))
+    ∙ told .enum-told .given .1) in
+    let holds = text-holds _ _ _ _ _ e in
+    (s .pre, long .before .measure .ensures, holds .0, holds .1)
+
+returns : tie.Need-returns
+returns c =
+    let room = c .before .before .before in
+    let long = room .before in
+    let scratch = long .before .before in
+    let s = scratch .before .before .before in
+    let short = fault (s .args .e) (s .args .words .now) (s .args .first .now) (s .args .second .now) (s .args .text .now) in
+    let e = fit-short short (sym (room-as-judged _ _ _ (scratch .scratch-over .ensures) (long .text-length .ensures) (room .for-text .ensures))
+    ∙ c .before .f .given .1) in
+    rw e (refusal-left _ _ _ _)
 
 same-length : tie.Need-same-length
 same-length c = search needs
@@ -56,14 +74,18 @@ same-length-2 c = search needs
 same-length-3 : tie.Need-same-length-3
 same-length-3 c = search needs
 
-returns-4 : tie.Need-returns-4
-returns-4 c =
-    let t = c .before .before .before .before .before .before .before .before in
-    let m = t .before .before .before .before .before in
-    let k = m .before .before in
-    let s = k .before .before .before in
-    long-enough (s .args .e) (tableOf (s .args .words .now)) _ _ _ (k .scratch-over .ensures) (m .text-length .ensures)
-    (t .before .before .before .if1 .left) (t .before .if2 .left) (t .if3 .left) (c .before .before .before .before .write-text .ensures)
+returns-2 : tie.Need-returns-2
+returns-2 c =
+    let wrote = c .before .before .before .before in
+    let told = wrote .before .before .before .before in
+    let room = told .before .before in
+    let long = room .before in
+    let scratch = long .before .before in
+    let s = scratch .before .before .before in
+    let short = fault (s .args .e) (s .args .words .now) (s .args .first .now) (s .args .second .now) (s .args .text .now) in
+    let e = fit-enough short (sym (room-as-judged _ _ _ (scratch .scratch-over .ensures) (long .text-length .ensures) (room .for-text .ensures))
+    ∙ told .enum-told .given .1) in
+    rw e (wrote .write-text .ensures)
 
 pub write-checked-spec : {M : Type 1} → statement M
 write-checked-spec =
@@ -72,11 +94,12 @@ write-checked-spec =
     scratch-over-requires
     measure-requires
     text-length-requires
-    returns
-    returns-2
-    returns-3
+    for-text-requires
+    enum-known-f
+    enum-told
     write-text-requires
+    returns
     same-length
     same-length-2
     same-length-3
-    returns-4)
+    returns-2)
