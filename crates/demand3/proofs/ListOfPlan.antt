@@ -83,7 +83,8 @@ module _ (t : Table) (plan : List ℕ) where
   unfolding made stepBase before stepRow
   made-step s b j (u, v) l g =
       let rest : List ℕ = replicate (switches t s) 0 in
-      let index : values t + before (steps t) b + (j - 1) - 1 ≡ length (valueBits t plan) + (before (steps t) b + (j - 2)) = rw (values-long t plan) (omega arith) in
+      let index : values t + before (steps t) b + (j - 1) - 1 ≡ length (valueBits t plan) + (before (steps t) b + (j - 2)) =
+      rw (values-long t plan) (omega arith) in
       let many : length (steps t) ≡ boxes t = length-map (t .sizes) pred in
       let wide = step-size t plan b in
       ap (λ (n : ℕ). eqb n 1)
