@@ -1,7 +1,7 @@
 """Sheets with their list line, as the program decode is given them: what reading one answers, and what it leaves in the two lent buffers."""
 
 from entry_points import Call
-from sheet_lines import EXAMPLE, PAIR, numbers, told
+from sheet_lines import EXAMPLE, PAIR, numbers, read_as, told
 
 THRESHOLDS = b"hard=regular\nside=support\nboxes=1\nvalues=3\n"
 CASES = [
@@ -36,8 +36,7 @@ SHORT = [("both buffers too short", 4), ("the table too short", 5)]
 
 def shown(answer):
     def read(hard, side, words, entries, _):
-        table, text = answer.left["table"][:words], answer.left["text"][:entries]
-        return f"hard part {hard}, side {side}, words {numbers(table)}, list {numbers(text)}"
+        return read_as(hard, side, answer.left["table"][:words]) + f", list {numbers(answer.left['text'][:entries])}"
 
     return told(answer, read)
 

@@ -10,6 +10,11 @@ def numbers(entries):
     return " ".join(map(str, entries))
 
 
+def read_as(hard, side, words):
+    """What a sheet says that was read."""
+    return f"hard part {hard}, side {side}, words {numbers(words)}"
+
+
 def told(answer, success):
     """What `success` makes of the values; or the refusal, with how many entries of the lent buffers are no longer what they were."""
     changed = sum(not same for buffer in answer.left for same in answer.untouched(buffer))

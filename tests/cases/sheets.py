@@ -2,7 +2,7 @@
 table there and back."""
 
 from entry_points import Call
-from sheet_lines import BOXES, EXAMPLE, PAIR, TOP, numbers
+from sheet_lines import BOXES, EXAMPLE, PAIR, TOP, numbers, read_as
 from tables import EXAMPLE as WORDS
 
 DAMAGED = [
@@ -47,7 +47,7 @@ NO_SHEETS = [
 
 def read_line(name, answer):
     """What reading a sheet answers, with the words that it leaves."""
-    return f"{name}: " + answer.told(lambda hard, side, count, *_: f"hard part {hard}, side {side}, words {numbers(answer.left['table'][:count])}")
+    return f"{name}: " + answer.told(lambda hard, side, count, *_: read_as(hard, side, answer.left["table"][:count]))
 
 
 def read_lines(answers, cases):
