@@ -3,12 +3,24 @@
 import struct
 import subprocess
 
-NAMES = ("check", "cost", "exact_lengths", "scratch_lengths", "decode", "make_list", "read_sheet", "write_sheet", "read_list", "encode", "write_wcnf")
-# the lent buffers in the order in which their lengths and their entries are told, and the bytes of an entry
+# the buffers in the order in which their lengths and their entries are told, and the bytes of an entry
 BUFFERS = {"first": 5, "second": 5, "literals": 5, "weights": 8, "table": 4, "text": 1}
+# the entry points in the order of their numbers, from 1, and the buffers that each is lent
+LENT = {
+    "check": (),
+    "cost": (),
+    "exact_lengths": (),
+    "scratch_lengths": (),
+    "decode": ("table",),
+    "make_list": ("text",),
+    "read_sheet": ("table",),
+    "write_sheet": ("text",),
+    "read_list": ("table", "text"),
+    "encode": ("first", "second", "literals", "weights"),
+    "write_wcnf": ("first", "second", "text"),
+}
 MARGIN = 8  # entries past each buffer that are shown too
 SEED = 9  # what the first entry of a buffer is lent as follows from it, and so do the others
-SMALL = {"words": 1024, "plan": 128, "given": 16384, "first": 1024, "second": 1024, "literals": 16384, "weights": 8192, "table": 1024, "text": 131072}
 
 
 class Call:
@@ -17,17 +29,16 @@ class Call:
     def __init__(self, name, words=(), hard=0, side=0, plan=(), given=b"", **lent):
         self.name, self.hard, self.side = name, hard, side
         self.words, self.plan, self.given = list(words), list(plan), bytes(given)
-        self.lent = {buffer: lent.pop(buffer, 0) for buffer in BUFFERS}
+        self.lent = {buffer: lent.pop(buffer, 0) for buffer in LENT[name]}
         if lent:
-            raise TypeError(f"no such buffer: {lent}")
+            raise TypeError(f"{name} is not lent: {lent}")
 
     def input(self):
-        long = {"words": len(self.words), "plan": len(self.plan), "given": len(self.given)}
-        small = all(count <= SMALL[name] for name, count in long.items())
-        small = small and all(count + MARGIN <= SMALL[name] for name, count in self.lent.items())
-        numbers = [NAMES.index(self.name) + 1, self.hard, self.side, SEED, *long.values(), *self.lent.values()]
+        numbers = [list(LENT).index(self.name) + 1, self.hard, self.side, SEED]
+        numbers += [len(self.words), len(self.plan), len(self.given)]
+        numbers += [self.lent.get(buffer, 0) for buffer in BUFFERS]
         numbers += self.words + self.plan
-        return bytes([1 if small else 2]) + struct.pack(f"<{len(numbers)}I", *numbers) + self.given
+        return struct.pack(f"<{len(numbers)}I", *numbers) + self.given
 
 
 def entry_as_lent(buffer, at):
@@ -56,8 +67,8 @@ def read_answer(call, read):
     if number == 255:
         raise ValueError(f"no room for the case, or no such entry point: {call.name}")
     left = {}
-    for buffer, width in BUFFERS.items():
-        count = call.lent[buffer]
+    for buffer, count in call.lent.items():
+        width = BUFFERS[buffer]
         entries = read(width * (count + MARGIN))
         parts = [entries[width * at : width * (at + 1)] for at in range(count)]
         if width == 5:

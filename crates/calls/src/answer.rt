@@ -37,12 +37,17 @@ pub fn not_called() -> Answer {
     of_number(255, 0)
 }
 
-pub fn say(answer: Answer, out: &mut [u8]) {
+fn put(answer: Answer, out: &mut [u8]) -> usize {
     let a = coded::put_number(out, 0, answer.number, 8);
     let b = coded::put_number(out, a, answer.a, 8);
     let c = coded::put_number(out, b, answer.b, 8);
     let d = coded::put_number(out, c, answer.c, 8);
     let e = coded::put_number(out, d, answer.d, 8);
-    let end = coded::put_number(out, e, answer.e, 8);
-    prints::send(out, end);
+    coded::put_number(out, e, answer.e, 8)
+}
+
+pub fn say(answer: Answer) {
+    let mut out = [0u8; 48];
+    let end = put(answer, &mut out);
+    prints::send(&out, end);
 }

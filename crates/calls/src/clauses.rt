@@ -1,11 +1,11 @@
-// The clause list and the WCNF text of a table.
+// The clause list of a table: two scratch buffers, and room for literals and weights.
 use crate::answer;
 use crate::answer::Answer;
 use crate::head;
+use crate::lent;
 use encoder::Encoded;
-use wcnf_out::Written;
 
-fn encoded(
+fn encode(
     words: &[u32],
     hard: u32,
     side: u32,
@@ -20,8 +20,8 @@ fn encoded(
     }
 }
 
-// The clause list, once both scratch buffers are cut to their lengths.
-fn encode_into(
+// Once both scratch buffers are cut to their lengths.
+fn call_with_scratch(
     case: &[u32],
     words: &[u32],
     first: &mut [i32],
@@ -35,7 +35,7 @@ fn encode_into(
     let m = head::length(case, head::WEIGHTS);
     if n <= literals.len() {
         if m <= weights.len() {
-            return encoded(
+            return encode(
                 words,
                 hard,
                 side,
@@ -50,7 +50,7 @@ fn encode_into(
 }
 
 // Entry point 10.
-pub fn encode(
+fn call_with_room(
     case: &[u32],
     words: &[u32],
     first: &mut [i32],
@@ -62,7 +62,7 @@ pub fn encode(
     let m = head::length(case, head::SECOND);
     if n <= first.len() {
         if m <= second.len() {
-            return encode_into(
+            return call_with_scratch(
                 case,
                 words,
                 &mut first[..n],
@@ -75,50 +75,74 @@ pub fn encode(
     answer::not_called()
 }
 
-fn wcnf_written(
-    words: &[u32],
-    hard: u32,
-    side: u32,
-    first: &mut [i32],
-    second: &mut [i32],
-    text: &mut [u8],
-) -> Answer {
-    match wcnf_out::write_wcnf(words, hard, side, first, second, text) {
-        Written::Refused(f) => answer::refused(f),
-        Written::Text(n) => answer::success(n as u64, 0, 0, 0, 0),
-    }
-}
-
-fn write_into(
+fn call_filled(
     case: &[u32],
     words: &[u32],
     first: &mut [i32],
     second: &mut [i32],
-    text: &mut [u8],
+    literals: &mut [i32],
+    weights: &mut [u64],
 ) -> Answer {
-    let hard = head::number(case, head::HARD);
-    let side = head::number(case, head::SIDE);
-    let n = head::length(case, head::TEXT);
-    if n <= text.len() {
-        return wcnf_written(words, hard, side, first, second, &mut text[..n]);
-    }
-    answer::not_called()
+    lent::fill_literals(case, head::FIRST, first);
+    lent::fill_literals(case, head::SECOND, second);
+    lent::fill_literals(case, head::LITERALS, literals);
+    lent::fill_weights(case, head::WEIGHTS, weights);
+    call_with_room(case, words, first, second, literals, weights)
 }
 
-// Entry point 11.
-pub fn write_wcnf(
+fn say_left(
+    case: &[u32],
+    first: &[i32],
+    second: &[i32],
+    literals: &[i32],
+    weights: &[u64],
+    space: &mut [u8],
+) {
+    lent::say_literals(case, head::FIRST, first, space);
+    lent::say_literals(case, head::SECOND, second, space);
+    lent::say_literals(case, head::LITERALS, literals, space);
+    lent::say_weights(case, head::WEIGHTS, weights, space);
+}
+
+fn show_in(
     case: &[u32],
     words: &[u32],
-    first: &mut [i32],
-    second: &mut [i32],
-    text: &mut [u8],
-) -> Answer {
-    let n = head::length(case, head::FIRST);
-    let m = head::length(case, head::SECOND);
-    if n <= first.len() {
-        if m <= second.len() {
-            return write_into(case, words, &mut first[..n], &mut second[..m], text);
-        }
+    literals: &mut [i32],
+    weights: &mut [u64],
+    space: &mut [u8],
+) {
+    let mut first = [0i32; 2048];
+    let mut second = [0i32; 2048];
+    answer::say(call_filled(case, words, &mut first, &mut second, literals, weights));
+    say_left(case, &first, &second, literals, weights, space);
+}
+
+fn show_small(case: &[u32], words: &[u32]) {
+    let mut literals = [0i32; 16384];
+    let mut weights = [0u64; 8192];
+    let mut space = [0u8; 131072];
+    show_in(case, words, &mut literals, &mut weights, &mut space);
+}
+
+// What the largest tables need, and more: they have 220,736 literals with their zeros and 73,280 weights.
+fn show_large(case: &[u32], words: &[u32]) {
+    let mut literals = [0i32; 262144];
+    let mut weights = [0u64; 81920];
+    let mut space = [0u8; 1400000];
+    show_in(case, words, &mut literals, &mut weights, &mut space);
+}
+
+fn is_small(case: &[u32]) -> bool {
+    if head::shown(case, head::LITERALS) <= 16384 {
+        return head::shown(case, head::WEIGHTS) <= 8192;
     }
-    answer::not_called()
+    false
+}
+
+pub fn show(case: &[u32], words: &[u32]) {
+    if is_small(case) {
+        show_small(case, words);
+    } else {
+        show_large(case, words);
+    }
 }

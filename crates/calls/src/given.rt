@@ -11,7 +11,7 @@ fn read_bytes(n: usize, out: &mut [u8]) -> bool {
 
 fn read_numbers(n: usize, space: &mut [u8], out: &mut [u32]) -> bool {
     if n <= out.len() {
-        if n < 65536 {
+        if n <= 8192 {
             if read_bytes(n * 4, space) {
                 coded::put_numbers_of(space, n, out);
                 return true;
@@ -21,12 +21,26 @@ fn read_numbers(n: usize, space: &mut [u8], out: &mut [u32]) -> bool {
     false
 }
 
-fn read_inputs(
+pub fn read_head(case: &mut [u32]) -> bool {
+    let mut space = [0u8; 52];
+    read_numbers(13, &mut space, case)
+}
+
+pub fn is_small(case: &[u32]) -> bool {
+    if head::length(case, head::WORDS) <= 512 {
+        if head::length(case, head::PLAN) <= 128 {
+            return head::length(case, head::BYTES) <= 2048;
+        }
+    }
+    false
+}
+
+pub fn read_inputs(
     case: &[u32],
-    space: &mut [u8],
     words: &mut [u32],
     plan: &mut [u32],
     bytes: &mut [u8],
+    space: &mut [u8],
 ) -> bool {
     if read_numbers(head::length(case, head::WORDS), space, words) {
         if read_numbers(head::length(case, head::PLAN), space, plan) {
@@ -34,24 +48,4 @@ fn read_inputs(
         }
     }
     false
-}
-
-pub fn read_case(
-    case: &mut [u32],
-    words: &mut [u32],
-    plan: &mut [u32],
-    bytes: &mut [u8],
-    space: &mut [u8],
-) -> bool {
-    if read_numbers(13, space, case) {
-        return read_inputs(case, space, words, plan, bytes);
-    }
-    false
-}
-
-// 0 if the input ends.
-pub fn read_room() -> u8 {
-    let mut room = [0u8; 1];
-    io::read_full(0, &mut room);
-    room[0]
 }

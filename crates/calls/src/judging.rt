@@ -42,7 +42,7 @@ fn scratch_lengths(words: &[u32], hard: u32, side: u32) -> Answer {
 }
 
 // Entry points 1 to 4.
-pub fn call(case: &[u32], words: &[u32], of: &[u32]) -> Answer {
+fn call(case: &[u32], words: &[u32], of: &[u32]) -> Answer {
     let entry = head::number(case, head::ENTRY);
     if entry == 1 {
         return check(words);
@@ -56,4 +56,8 @@ pub fn call(case: &[u32], words: &[u32], of: &[u32]) -> Answer {
         return exact_lengths(words, hard, side);
     }
     scratch_lengths(words, hard, side)
+}
+
+pub fn show(case: &[u32], words: &[u32], of: &[u32]) {
+    answer::say(call(case, words, of));
 }

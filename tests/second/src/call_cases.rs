@@ -243,6 +243,8 @@ pub fn case(seed: u64, entry: usize, index: usize) -> Case {
         }
         None => call.lent = lend_any(random),
     }
+    let used = call.buffers();
+    (0..6).filter(|which| !used.contains(which)).for_each(|which| call.lent[which] = 0);
     assert!((0..6).all(|which| call.lent[which] + MARGIN <= MOST_LENT[which]), "the program has room for it");
     Case { call, kinds }
 }

@@ -110,7 +110,7 @@ pub fn compare(command: &str, seed: u64, count: usize) -> i32 {
 }
 
 /// The stand-in for the program: the cases of an input, answered by this implementation. With `flipped` it flips the last
-/// byte of the first, which is past every lent buffer.
+/// byte of the first: past the buffers, or of the answer's last number where none is lent.
 pub fn answer(mut input: &[u8], flipped: bool) -> Vec<u8> {
     let mut output = Vec::new();
     while let Some((call, rest)) = Call::read(input) {

@@ -23,9 +23,8 @@ pub const ENTRIES: [&str; 11] = [
     "wcnf_out::write_wcnf",
 ];
 
-/// The lent buffers, in the order in which their lengths and their entries are told.
-pub const BUFFERS: [&str; 6] =
-    ["first scratch", "second scratch", "literals", "weights", "table or plan", "text or list"];
+/// The buffers, in the order in which their lengths and their entries are told.
+const BUFFERS: [&str; 6] = ["first scratch", "second scratch", "literals", "weights", "table or plan", "text or list"];
 pub const FIRST: usize = 0;
 pub const SECOND: usize = 1;
 pub const LITERALS: usize = 2;
@@ -33,16 +32,28 @@ pub const WEIGHTS: usize = 3;
 pub const TABLE: usize = 4;
 pub const TEXT: usize = 5;
 
+/// Which of them each entry point is lent, by its number from 1.
+const LENT: [&[usize]; 11] = [
+    &[],
+    &[],
+    &[],
+    &[],
+    &[TABLE],
+    &[TEXT],
+    &[TABLE],
+    &[TEXT],
+    &[TABLE, TEXT],
+    &[FIRST, SECOND, LITERALS, WEIGHTS],
+    &[FIRST, SECOND, TEXT],
+];
+
 /// Entries past each buffer that are shown too: none of them is lent.
 pub const MARGIN: usize = 8;
 /// What an entry takes when it is shown; a signed number is its magnitude and a byte that is 1 below 0.
 const WIDTHS: [usize; 6] = [5, 5, 5, 8, 4, 1];
-/// The program's smaller room: most words, entries of a plan and bytes that it is given, and entries of each buffer.
-const SMALL_GIVEN: [usize; 3] = [1024, 128, 16_384];
-const SMALL_LENT: [usize; 6] = [1024, 1024, 16_384, 8192, 1024, 131_072];
-/// And the larger one.
+/// The program's room: most words, entries of a plan and bytes that it is given, and entries of each buffer.
 pub const MOST_GIVEN: [usize; 3] = [8192, 1024, 131_072];
-pub const MOST_LENT: [usize; 6] = [2048, 2048, 262_144, 81_920, 8192, 1_800_000];
+pub const MOST_LENT: [usize; 6] = [2048, 2048, 262_144, 81_920, 5120, 1_800_000];
 
 /// A call of one entry point.
 #[derive(Clone, Debug)]
@@ -57,7 +68,7 @@ pub struct Call {
     pub plan: Vec<u32>,
     /// a text or a list
     pub bytes: Vec<u8>,
-    /// lengths of the buffers
+    /// lengths of the buffers, 0 of one that is not lent
     pub lent: [usize; 6],
 }
 
@@ -88,19 +99,21 @@ impl Buffers {
         }
     }
 
-    fn shown(&self) -> Vec<u8> {
-        let mut bytes = Vec::new();
-        for one in [&self.scratch[0], &self.scratch[1], &self.literals] {
-            for &entry in one {
-                bytes.extend(entry.unsigned_abs().to_le_bytes());
-                bytes.push((entry < 0) as u8);
-            }
+    fn shown(&self, which: usize) -> Vec<u8> {
+        match which {
+            FIRST => shown_signed(&self.scratch[0]),
+            SECOND => shown_signed(&self.scratch[1]),
+            LITERALS => shown_signed(&self.literals),
+            WEIGHTS => self.weights.iter().flat_map(|one| one.to_le_bytes()).collect(),
+            TABLE => self.table.iter().flat_map(|one| one.to_le_bytes()).collect(),
+            _ => self.text.clone(),
         }
-        bytes.extend(self.weights.iter().flat_map(|one| one.to_le_bytes()));
-        bytes.extend(self.table.iter().flat_map(|one| one.to_le_bytes()));
-        bytes.extend(&self.text);
-        bytes
     }
+}
+
+fn shown_signed(entries: &[i32]) -> Vec<u8> {
+    let shown = |one: &i32| [&one.unsigned_abs().to_le_bytes()[..], &[(*one < 0) as u8]].concat();
+    entries.iter().flat_map(shown).collect()
 }
 
 /// What a success gives; the rest are 0.
@@ -113,10 +126,9 @@ fn values(given: &[usize]) -> Values {
 }
 
 impl Call {
-    /// Whether the program's smaller room holds it.
-    fn is_small(&self) -> bool {
-        let given = [self.words.len(), self.plan.len(), self.bytes.len()];
-        (0..3).all(|at| given[at] <= SMALL_GIVEN[at]) && (0..6).all(|at| self.lent[at] + MARGIN <= SMALL_LENT[at])
+    /// The buffers that its entry point is lent.
+    pub fn buffers(&self) -> &'static [usize] {
+        LENT[self.entry - 1]
     }
 
     /// The case as the program reads it.
@@ -124,7 +136,7 @@ impl Call {
         let mut numbers = vec![self.entry as u32, self.hard, self.side, self.seed];
         numbers.extend([self.words.len() as u32, self.plan.len() as u32, self.bytes.len() as u32]);
         numbers.extend(self.lent.iter().map(|&one| one as u32));
-        let mut input = vec![if self.is_small() { 1 } else { 2 }];
+        let mut input = Vec::new();
         for one in numbers.iter().chain(&self.words).chain(&self.plan) {
             input.extend(one.to_le_bytes());
         }
@@ -134,7 +146,7 @@ impl Call {
 
     /// The case at the start of an input, and what follows it.
     pub fn read(input: &[u8]) -> Option<(Call, &[u8])> {
-        let (_, mut rest) = input.split_first()?;
+        let mut rest = input;
         let mut take = |many: usize| {
             let (taken, after) = rest.split_at_checked(many)?;
             rest = after;
@@ -152,9 +164,13 @@ impl Call {
         Some((Call { entry, hard, side, seed, words, plan, bytes, lent }, rest))
     }
 
-    /// How long the answer is with all buffers: the lent lengths alone decide it.
+    fn shown_length(&self, which: usize) -> usize {
+        (self.lent[which] + MARGIN) * WIDTHS[which]
+    }
+
+    /// How long the answer is with the lent buffers: their lengths alone decide it.
     pub fn output_length(&self) -> usize {
-        48 + (0..6).map(|which| (self.lent[which] + MARGIN) * WIDTHS[which]).sum::<usize>()
+        48 + self.buffers().iter().map(|&which| self.shown_length(which)).sum::<usize>()
     }
 
     /// Where byte `at` of the output stands.
@@ -163,8 +179,8 @@ impl Call {
             None => return format!("number {} of the answer", at / 8),
             Some(left) => left,
         };
-        for which in 0..6 {
-            let long = (self.lent[which] + MARGIN) * WIDTHS[which];
+        for &which in self.buffers() {
+            let long = self.shown_length(which);
             if left < long {
                 return format!("{}, entry {} of {}", BUFFERS[which], left / WIDTHS[which], self.lent[which]);
             }
@@ -182,7 +198,7 @@ impl Call {
             Err(no) => [no.number as u64, no.place as u64, 0, 0, 0, 0],
         };
         let mut output: Vec<u8> = numbers.iter().flat_map(|one| one.to_le_bytes()).collect();
-        output.extend(buffers.shown());
+        self.buffers().iter().for_each(|&which| output.extend(buffers.shown(which)));
         (answer, output)
     }
 
