@@ -11,7 +11,7 @@ use Rattle.refusal.specs.declared.Refusal.the-variants.{Room}
 use Rattle.measure.specs.declared.Lengths.{Lengths}
 use Rattle.measure.specs.declared.Scratch.{Scratch}
 use Rattle.room.specs.declared.Fit.{Fit}
-use Rattle.room.specs.Room.{clausesFault, textFault, fitOf}
+use Rattle.room.specs.Room.{twoFault, clausesFault, textFault, fitOf}
 
 pub fit-enough : (o : Option Refusal) → fitOf o ≡ Fit.Enough → o ≡ none
 fit-enough none e = refl
@@ -21,20 +21,19 @@ pub fit-short : (o : Option Refusal) {f : Refusal} → fitOf o ≡ Fit.Short f �
 fit-short none e = cc
 fit-short (some g) e = cc
 
--- where nothing is too short, both scratch slices hold their lists, whatever is judged after them
-scratch-holds : (s : Scratch) (first second : ℕ) (o : Option Refusal)
-    → (unless (leb (s .first) first) (Room (s .first)) then unless (leb (s .second) second) (Room (s .second)) then o) ≡ none
-    → (s .first ≤ first) × (s .second ≤ second)
-scratch-holds s first second o e =
-    let a = then-none (unless (leb (s .first) first) (Room (s .first))) _ e in
-    let b = then-none (unless (leb (s .second) second) (Room (s .second))) _ (a .1) in
-    (leb-true _ _ (unless-none _ _ (a .0)), leb-true _ _ (unless-none _ _ (b .0)))
+-- where neither of two is too short, both hold what they need
+two-hold : (a b first second : ℕ) → twoFault a b first second ≡ none
+    → (a ≤ first) × (b ≤ second)
+unfolding twoFault
+two-hold a b first second e =
+    let t = then-none (unless (leb a first) (Room a)) _ e in
+    (leb-true _ _ (unless-none _ _ (t .0)), leb-true _ _ (unless-none _ _ (t .1)))
 
 pub clauses-hold : (n : Lengths) (s : Scratch) (first second literals weights : ℕ) → clausesFault n s first second literals weights ≡ none
     → (s .first ≤ first) × (s .second ≤ second)
 unfolding clausesFault
-clauses-hold n s first second literals weights e = scratch-holds s first second _ e
+clauses-hold n s first second literals weights e = two-hold _ _ first second (then-none (twoFault (s .first) (s .second) first second) _ e .0)
 
 pub text-holds : (s : Scratch) (long first second text : ℕ) → textFault s long first second text ≡ none → (s .first ≤ first) × (s .second ≤ second)
 unfolding textFault
-text-holds s long first second text e = scratch-holds s first second _ e
+text-holds s long first second text e = two-hold _ _ first second (then-none (twoFault (s .first) (s .second) first second) _ e .0)

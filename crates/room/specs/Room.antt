@@ -12,14 +12,18 @@ use Rattle.room.specs.declared.Fit.{Fit}
 abbrev short : (needed room : ℕ) → Option Refusal
 short needed room = unless (leb needed room) (Room needed)
 
--- for a clause list: literals, then weights
+-- the first of two buffers, by what they need and how long they are
+unfoldable pub twoFault : (a b first second : ℕ) → Option Refusal
+twoFault a b first second = short a first then short b second
+
+-- for a clause list: the scratch, then literals and weights
 unfoldable pub clausesFault : Lengths → Scratch → (first second literals weights : ℕ) → Option Refusal
 clausesFault n s first second literals weights =
-    short (s .first) first then short (s .second) second then short (n .entries) literals then short (n .clauses) weights
+    twoFault (s .first) (s .second) first second then twoFault (n .entries) (n .clauses) literals weights
 
 -- for a text
 unfoldable pub textFault : Scratch → (long first second text : ℕ) → Option Refusal
-textFault s long first second text = short (s .first) first then short (s .second) second then short long text
+textFault s long first second text = twoFault (s .first) (s .second) first second then short long text
 
 -- as the code has it
 abbrev pub fitOf : Option Refusal → Fit

@@ -3,11 +3,24 @@ use measure::Lengths;
 use measure::Scratch;
 use refusal::Refusal;
 ghost use mathlib.Core.Path.{_≡_};
-ghost use Rattle.room.specs.Room.{clausesFault, textFault, fitOf};
+ghost use Rattle.room.specs.Room.{twoFault, clausesFault, textFault, fitOf};
 
 pub enum Fit {
     Enough,
     Short(Refusal),
+}
+
+// Of two buffers that need `a` and `b` entries, the first that is too short.
+fn for_two(a: usize, b: usize, first: usize, second: usize) -> Fit
+    ensures { λ r. ⌜ r ≡ fitOf (twoFault a b first second) ⌝ }
+{
+    if first < a {
+        return Fit::Short(Refusal::Room(a));
+    }
+    if second < b {
+        return Fit::Short(Refusal::Room(b));
+    }
+    Fit::Enough
 }
 
 // For a clause list and its weights.
@@ -21,33 +34,23 @@ pub fn for_clauses(
 ) -> Fit
     ensures { λ r. ⌜ r ≡ fitOf (clausesFault needed scratch first second literals weights) ⌝ }
 {
-    if first < scratch.first {
-        return Fit::Short(Refusal::Room(scratch.first));
+    match for_two(scratch.first, scratch.second, first, second) {
+        Fit::Short(f) => Fit::Short(f),
+        Fit::Enough => for_two(needed.entries, needed.clauses, literals, weights),
     }
-    if second < scratch.second {
-        return Fit::Short(Refusal::Room(scratch.second));
-    }
-    if literals < needed.entries {
-        return Fit::Short(Refusal::Room(needed.entries));
-    }
-    if weights < needed.clauses {
-        return Fit::Short(Refusal::Room(needed.clauses));
-    }
-    Fit::Enough
 }
 
 // For a text of that length.
 pub fn for_text(scratch: Scratch, long: usize, first: usize, second: usize, text: usize) -> Fit
     ensures { λ r. ⌜ r ≡ fitOf (textFault scratch long first second text) ⌝ }
 {
-    if first < scratch.first {
-        return Fit::Short(Refusal::Room(scratch.first));
+    match for_two(scratch.first, scratch.second, first, second) {
+        Fit::Short(f) => Fit::Short(f),
+        Fit::Enough => {
+            if text < long {
+                return Fit::Short(Refusal::Room(long));
+            }
+            Fit::Enough
+        }
     }
-    if second < scratch.second {
-        return Fit::Short(Refusal::Room(scratch.second));
-    }
-    if text < long {
-        return Fit::Short(Refusal::Room(long));
-    }
-    Fit::Enough
 }
