@@ -13,7 +13,8 @@ use Rattle.room.specs.Room.{clausesFault, fitOf}
 use Rattle.clauses_out.specs.declared.Written.{Written}
 use Rattle.clauses_out.specs.Listed.{Listed}
 use Rattle.encoder.specs.declared.Encoded.{Encoded}
-use Rattle.encoder.specs.Encoded.{no, yes, Outcomes}
+use Rattle.whole.specs.Verdict.{no, yes}
+use Rattle.encoder.specs.Encoded.{Outcomes}
 
 pub room-as-judged : {n m : Lengths} {s k : Scratch} (first second literals weights : ℕ) {r : Fit} → n ≡ m → s ≡ k
     → r ≡ fitOf (clausesFault n s first second literals weights) → r ≡ fitOf (clausesFault m k first second literals weights)

@@ -1,11 +1,9 @@
 -- What the encoder answers and what each lent buffer then holds. Nothing is written before the last judgement.
 use Prim.Native.Nat.{ℕ}
 use mathlib.Core.Path.{_≡_}
-use mathlib.Core.Option.{Option, none, some}
 use mathlib.Core.List.{List, [], _∷_}
 use lib.ListN.{length}
 use lib.IntN.{ℤ}
-use Rattle.refusal.specs.declared.Refusal.{Refusal}
 use Rattle.refusal.specs.Refusals.{Says, gives, refusalSays}
 use Rattle.table.specs.Table.{Table}
 use Rattle.table.specs.Words.{Outcome}
@@ -14,20 +12,11 @@ use Rattle.clause.specs.declared.Picked.{Picked}
 use Rattle.asked.specs.Asked.{over}
 use Rattle.measure.specs.Measures.{lengthsFor, scratchFor}
 use Rattle.room.specs.Room.{clausesFault}
-use Rattle.whole.specs.Scratch.{scratchLeft}
+use Rattle.whole.specs.Verdict.{Verdict, no, yes, roomed, scratchAfter}
 use Rattle.clauses_out.specs.Listed.{writtenOf, literalsWith, weightsWith}
 use Rattle.encoder.specs.declared.Encoded.{Encoded}
 
 -- ---- the judgement
-
--- what is judged: 8, then 1 to 7, then 9; else the encoding and the table
-pub data Verdict : Type 0 where
-  no : Refusal → Verdict
-  yes : Encoding → Table → Verdict
-
-abbrev pub roomed : Option Refusal → Encoding → Table → Verdict
-roomed none e t = yes e t
-roomed (some f) e t = no f
 
 abbrev pub judgedRoom : Encoding → Table → (first second literals : List ℤ) → (weights : List ℕ) → Verdict
 judgedRoom e t first second literals weights =
@@ -50,10 +39,6 @@ literalsAfter (yes e t) old = literalsWith e t old
 abbrev pub weightsAfter : Verdict → List ℕ → List ℕ
 weightsAfter (no f) old = old
 weightsAfter (yes e t) old = weightsWith e t old
-
-abbrev pub scratchAfter : Verdict → List ℤ → List ℤ
-scratchAfter (no f) old = old
-scratchAfter (yes e t) old = scratchLeft (e .side) old
 
 -- the answer and each lent buffer at exit, by the verdict and what they were
 pub record Outcomes (v : Verdict) (first second literals : List ℤ) (weights : List ℕ) (r : Encoded)

@@ -4,7 +4,8 @@ use mathlib.Core.Path.{_≡_, refl, sym, ap, _∙_}
 use mathlib.Core.List.{List}
 use lib.IntN.{ℤ}
 use Rattle.refusal.specs.Refusals.{Says, gives}
-use Rattle.encoder.specs.Encoded.{Verdict, encodedOf, Outcomes}
+use Rattle.whole.specs.Verdict.{Verdict}
+use Rattle.encoder.specs.Encoded.{encodedOf, Outcomes}
 use Rattle.encoder.specs.declared.Encoded.{Encoded}
 use Rattle.wcnf_out.specs.declared.Written.{Written}
 use Rattle.wcnf_out.specs.Written as texts

@@ -9,7 +9,8 @@ use Rattle.table.specs.Answers.{checkedOf, checkedSays}
 use Rattle.plan.specs.Plan.{costedOf, costedSays}
 use Rattle.clause.specs.Encodings.{pickedOf}
 use Rattle.measure.specs.Measures.{measuredOf, measuredSays, neededOf, neededSays}
-use Rattle.encoder.specs.Encoded.{Verdict, verdict, encodedOf, encodedSays, Outcomes}
+use Rattle.whole.specs.Verdict.{Verdict}
+use Rattle.encoder.specs.Encoded.{verdict, encodedOf, encodedSays, Outcomes}
 use Rattle.decoder.specs.Answers.{decodedOf, decodedSays, madeOf, madeSays}
 use Rattle.sheet_in.specs.Parsed.{parsed, readOf, readSays}
 use Rattle.sheet_out.specs.Written as sheets

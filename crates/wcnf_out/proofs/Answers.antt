@@ -16,7 +16,7 @@ use Rattle.room.specs.declared.Fit.{Fit}
 use Rattle.room.specs.Room.{textFault, fitOf}
 use Rattle.whole.specs.Scratch.{scratchLeft}
 use Rattle.whole.proofs.Scratch.{left}
-use Rattle.encoder.specs.Encoded.{no, yes}
+use Rattle.whole.specs.Verdict.{no, yes}
 use Rattle.wcnf_text.specs.Text.{textOf}
 use Rattle.wcnf_out.specs.declared.Written.{Written}
 use Rattle.wcnf_out.specs.Written.{Outcomes}

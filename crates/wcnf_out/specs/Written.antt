@@ -13,7 +13,7 @@ use Rattle.clause.specs.declared.Picked.{Picked}
 use Rattle.asked.specs.Asked.{over}
 use Rattle.measure.specs.Measures.{scratchFor}
 use Rattle.room.specs.Room.{textFault}
-use Rattle.encoder.specs.Encoded.{Verdict, no, yes, roomed, scratchAfter}
+use Rattle.whole.specs.Verdict.{Verdict, no, yes, roomed, scratchAfter}
 use Rattle.wcnf_text.specs.Text.{textOf}
 use Rattle.wcnf_out.specs.declared.Written.{Written}
 
@@ -34,7 +34,7 @@ abbrev pub textAfter : Verdict → List ℕ → List ℕ
 textAfter (no f) old = old
 textAfter (yes e t) old = sets old 0 (textOf e t)
 
--- the answer and each lent buffer at exit, by the verdict and what they were; scratch as the encoder leaves it
+-- the answer and each lent buffer at exit, by the verdict and what they were; scratch as the clause list leaves it
 pub record Outcomes (v : Verdict) (first second : List ℤ) (text : List ℕ) (r : Written) (first' second' : List ℤ) (text' : List ℕ) : Type 0 where
   pub answer : r ≡ writtenOf v
   pub first-left : first' ≡ scratchAfter v first

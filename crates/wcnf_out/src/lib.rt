@@ -14,7 +14,7 @@ ghost use Rattle.clause.specs.Ends.{one, two};
 ghost use Rattle.clause.specs.Encodings.{pickedOf};
 ghost use Rattle.clause.specs.Lengths.{scratchLength};
 ghost use Rattle.measure.specs.Measures.{lengthsFor};
-ghost use Rattle.encoder.specs.Encoded.{yes};
+ghost use Rattle.whole.specs.Verdict.{yes};
 ghost use Rattle.wcnf_out.specs.Written.{judgedRoom, verdict, Outcomes};
 
 pub enum Written {

@@ -1,6 +1,7 @@
 -- What is asked for is judged, and what is left is written.
 use Rattle.encoder.proofs.Judged.{refusal-left}
-use Rattle.encoder.specs.Encoded.{no, judgedRoom}
+use Rattle.whole.specs.Verdict.{no}
+use Rattle.encoder.specs.Encoded.{judgedRoom}
 use Rattle.asked.proofs.Answers.{asked-refused, asked-ready}
 use Rattle.table.specs.Words.{judged}
 use Rattle.clause.specs.Encodings.{pickedOf}

@@ -1,7 +1,7 @@
 -- What is asked for is judged, and what is left is written.
 use Rattle.wcnf_out.proofs.Answers.{refusal-left}
 use Rattle.wcnf_out.specs.Written.{judgedRoom}
-use Rattle.encoder.specs.Encoded.{no}
+use Rattle.whole.specs.Verdict.{no}
 use Rattle.asked.proofs.Answers.{asked-refused, asked-ready}
 use Rattle.table.specs.Words.{judged}
 use Rattle.clause.specs.Encodings.{pickedOf}
