@@ -1,6 +1,6 @@
 -- How long the texts are, exactly and at most; a turn of the loop over a plan.
 use mathlib.Core.Path.{_≡_}
-use mathlib.Core.List.{List, [], _∷_, _++_, flatMap}
+use mathlib.Core.List.{List, [], _++_, flatMap}
 use Prim.Native.Nat.{ℕ, suc, _+_, _^_, _≤_, _<_}
 use native.Mathlib.Omega.{arith}
 use native.Mathlib.Numerals.{add-one}
@@ -13,11 +13,7 @@ use Rattle.refusal.specs.Refusals.{numberOf, placeOf}
 use Rattle.refusal.proofs.Numbers.{small-number}
 use Rattle.text_out.specs.Texts.{lineOf}
 use Rattle.text_out.proofs.Texts.{length-line}
-use Rattle.answer_out.specs.Answer.{valueKey, costKey, refusedKey, placeKey, valueLine, valueLines, costLine, answerText, refusedLine}
-
-pub length-answer : (plan : List ℕ) (cost : ℕ) → length (answerText plan cost) ≡ length (valueLines plan) + length (costLine cost)
-unfolding answerText
-length-answer plan cost = length-append (valueLines plan) (costLine cost)
+use Rattle.answer_out.specs.Answer.{valueKey, costKey, placeKey, valueLine, valueLines, costLine, refusedLine}
 
 pub length-refused : (f : Refusal) → length (refusedLine f) ≡ 8 + (length (digits (numberOf f)) + length (lineOf placeKey (placeOf f)))
 unfolding refusedLine

@@ -2,18 +2,17 @@
 use mathlib.Core.Path.{_≡_, ap, _∙_}
 use mathlib.Core.Bool.{true, false}
 use mathlib.Core.List.{List, [], _∷_, _++_}
-use Prim.Native.Nat.{ℕ, zero, suc, _+_, _*_, _≤_, _<_}
+use Prim.Native.Nat.{ℕ, zero, suc, _+_, _≤_, _<_}
 use native.Mathlib.Nat.{add-zero}
 use native.Mathlib.Omega.{arith}
 use lib.ListN.{length, length-append}
 use Rattle.lists.proofs.Lists.{sum-append}
 use Rattle.lists.proofs.Truth.{test}
-use Rattle.clause.specs.Clause.{Clause, entriesOf, literalsIn}
+use Rattle.clause.specs.Clause.{Clause, literalsIn}
 use Rattle.clause.specs.Ends.{End, supports, full, supportAt, supportClauses}
 use Rattle.clause.specs.Choice.{literalsFrom, points, scoreFrom}
 use Rattle.ends.proofs.Values.{flatFrom, flat-all, flat-turn, flat-none}
-use Rattle.ends.proofs.Ends.{supports-few, clause-none, clause-one, tail-clauses, tail-literals}
-use Rattle.clause.proofs.Lengths.{entries-length}
+use Rattle.ends.proofs.Ends.{supports-few, clause-none, clause-one}
 use Rattle.choice.specs.declared.EndTally.{EndTally}
 use Rattle.choice.specs.Tally.{tallyOf, endTally}
 
@@ -98,14 +97,3 @@ module _ (e : End) where
       (omega (arith, M .clauses, ap (λ (a : EndTally). a .clauses) t))
       (omega (arith, M .literals, ap (λ (a : EndTally). a .literals) t))
       (omega (arith, M .score, ap (λ (a : EndTally). a .score) t))
-
--- ---- what a caller takes from a tally: how many clauses there are with any tail, and how many entries
-
-module _ (e : End) (tail : Clause) where
-  pub tally-clauses : length (supportClauses e tail) ≡ endTally e .clauses
-  unfolding endTally
-  tally-clauses = tail-clauses e tail
-
-  pub tally-entries : length (entriesOf (supportClauses e tail)) ≡ endTally e .clauses + endTally e .literals + endTally e .clauses * length tail
-  unfolding endTally literalsFrom
-  tally-entries = omega (arith, entries-length (supportClauses e tail), tail-clauses e tail, tail-literals e tail)

@@ -1,15 +1,14 @@
 -- The hard part of one box says that it holds one value: each of the two, exactly; and both by one name.
-use mathlib.Core.Path.{_≡_, ap, _∙_}
+use mathlib.Core.Path.{_≡_}
 use mathlib.Core.Logic.{_↔_}
 use Prim.Native.Nat.{ℕ}
 use mathlib.Core.Bool.{true}
-use lib.Dec.{leb}
 use Rattle.clause.specs.declared.Hard.{Hard}
 use Rattle.clause.specs.declared.Hard.the-variants.{Standard, Regular}
 use Rattle.clause.specs.Clause.{Reading, allTrue}
 use Rattle.clause.specs.Numbers.{valueFrom, stepFrom}
 use Rattle.clause.specs.Hard.{standardBox, regularBox, boxWith}
-use Rattle.clause.proofs.OneValue.{Holds, Climbs, holds-one, trues, holds-exact}
+use Rattle.clause.proofs.OneValue.{Holds, Climbs}
 use Rattle.clause.proofs.StandardBox.{standard-holds, holds-standard}
 use Rattle.clause.proofs.RegularBox.{regular-holds, holds-regular}
 
@@ -20,20 +19,6 @@ standard-exact ν x m = (standard-holds ν x m, λ H. holds-standard ν x m (H .
 -- THEOREM. All regular clauses of a box are true exactly if, for some value a, x_a alone is true of its variables, and r_j exactly for j ≤ a.
 pub regular-exact : (ν : Reading) (x r : ℕ → ℕ) (m : ℕ) → (allTrue ν (regularBox x r m) ≡ true) ↔ ((a : ℕ) × Holds ν x m a × Climbs ν r m a)
 regular-exact ν x r m = (regular-holds ν x r m, λ H. holds-regular ν x r m (H .0) (H .1) (H .2))
-
--- THEOREM. All standard clauses of a box are true exactly if one of its variables is true.
-pub standard-one : (ν : Reading) (x : ℕ → ℕ) (m : ℕ) → (allTrue ν (standardBox x m) ≡ true) ↔ (trues (λ j. ν (x j)) 1 m ≡ 1)
-standard-one ν x m = (λ e. holds-exact ν x m .1 (standard-holds ν x m e), λ e. standard-exact ν x m .1 (holds-exact ν x m .0 e))
-
--- THEOREM. All regular clauses of a box are true exactly if one of its variables is true and its thresholds say the value that it holds.
-pub regular-one : (ν : Reading) (x r : ℕ → ℕ) (m : ℕ)
-    → (allTrue ν (regularBox x r m) ≡ true) ↔ ((trues (λ j. ν (x j)) 1 m ≡ 1) × ((a : ℕ) → Holds ν x m a → Climbs ν r m a))
-regular-one ν x r m = (
-  λ e.
-      let (a, H, C) = regular-holds ν x r m e in
-      (holds-exact ν x m .1 (a, H), λ b K j l h. C j l h ∙ ap (leb j) (holds-one ν x m a b H K)),
-  λ w. let (a, H) = holds-exact ν x m .0 (w .0) in holds-regular ν x r m a H (w .1 a H),
-)
 
 -- ---- both hard parts by one name
 

@@ -3,14 +3,14 @@ use mathlib.Core.Path.{_≡_, refl, ap, _∙_}
 use Prim.Native.Nat.{ℕ, zero, suc, _+_, _-_, _*_, _≤_}
 use native.Mathlib.Nat.{mul-le-mul, mul-le-mul-left, mul-le-mul-right}
 use native.Mathlib.Omega.{arith}
-use mathlib.Core.Bool.{Bool, true, false, cond}
+use mathlib.Core.Bool.{cond}
 use mathlib.Core.List.{List, [], _∷_, _++_, map, flatMap, map-append}
 use lib.ListN.{length, replicate, length-append, length-map}
-use Rattle.lists.specs.Lists.{count, those, sumOf, Each}
+use Rattle.lists.specs.Lists.{count, sumOf, Each}
 use Rattle.lists.proofs.Truth.{test}
 use Rattle.lists.proofs.Lists.{flat-append, sum-append, sum-map, sum-flat}
 use Rattle.lists.proofs.Blocks.{length-count}
-use Rattle.lists.proofs.Sums.{every-each, each-append, each-flat, each-map, sum-same, sum-constant, sum-plus, sum-most, run-most, one-most}
+use Rattle.lists.proofs.Sums.{each-flat, each-map, sum-same, sum-constant, sum-plus, sum-most, run-most, one-most}
 use Rattle.lists.proofs.Sums.{those-length, length-flat}
 use Rattle.table.specs.Table.{Table, Pair, size}
 use Rattle.clause.specs.declared.Hard.{Hard}
@@ -105,15 +105,6 @@ regular-literals x r k =
     simp (sum-append, sum-map, sum-flat)
     (omega (arith, sum-constant 2 (count 3 k), length-count 3 k, sum-constant 7 (count 2 k), length-count 2 k))
 
--- one value
-pub regular-length-one : (x r : ℕ → ℕ) → length (regularBox x r 1) ≡ 1
-unfolding regularBox
-regular-length-one x r = refl
-
-pub regular-literals-one : (x r : ℕ → ℕ) → literalsIn (regularBox x r 1) ≡ 1
-unfolding regularBox literalsIn
-regular-literals-one x r = refl
-
 -- ---- an end
 
 module _ (e : End) where
@@ -134,10 +125,6 @@ module _ (e : End) where
   unfolding directRow directAt
   row-two i =
       each-flat (λ c. length c ≡ 2) (directAt e i) (λ j. test (e .ok i j) (λ p. rw p tt) (λ p. rw p (refl, tt))) (count 1 (e .theirs))
-
-  pub row-literals : (i : ℕ) → literalsIn (directRow e i) ≡ length (directRow e i) * 2
-  unfolding literalsIn
-  row-literals i = sum-same length 2 (directRow e i) (row-two i)
 
   pub direct-literals : literalsIn (directClauses e) ≡ length (directClauses e) * 2
   unfolding literalsIn directClauses

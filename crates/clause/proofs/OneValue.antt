@@ -5,7 +5,7 @@ use Prim.Native.Nat.{ℕ, zero, suc, _+_, _≤_, _<_}
 use native.Mathlib.Omega.{arith}
 use mathlib.Core.Bool.{Bool, true, false, cond}
 use lib.Dec.{eqb, leb}
-use borrow.Author.Tests.{eq-eqb, ne-eqb, eqb-true}
+use borrow.Author.Tests.{eq-eqb, ne-eqb}
 use Rattle.lists.specs.Lists.{count, sumOf}
 use Rattle.lists.proofs.Truth.{test, same}
 use Rattle.lists.proofs.Runs.{sum-only}
@@ -26,10 +26,6 @@ holds-not {a} H j l h q = H .at j l (omega arith) ∙ ne-eqb j a q
 -- its thresholds say the same
 abbrev pub Climbs : Reading → (ℕ → ℕ) → ℕ → ℕ → Type 0
 Climbs ν r m a = (j : ℕ) → 2 ≤ j → j ≤ m → ν (r j) ≡ leb j a
-
--- a box holds at most one value
-pub holds-one : (ν : Reading) (x : ℕ → ℕ) (m a b : ℕ) → Holds ν x m a → Holds ν x m b → a ≡ b
-holds-one ν x m a b H K = eqb-true a b (sym (K .at a (H .low) (H .high)) ∙ holds-is H)
 
 -- ---- exactly one entry is 1
 

@@ -1,6 +1,6 @@
 -- The clause list part by part, as a loop over the boxes and one over the pairs go through it; and what is written and counted of each part.
-use mathlib.Core.Path.{_≡_, refl, sym, ap, ap₂, _∙_}
-use mathlib.Core.List.{List, [], _∷_, _++_, flatMap, map, map-append}
+use mathlib.Core.Path.{_≡_, refl, sym, ap, _∙_}
+use mathlib.Core.List.{List, [], _∷_, _++_, flatMap, map-append}
 use Prim.Native.Nat.{ℕ, suc, _+_, _-_, _≤_, _<_}
 use native.Mathlib.Nat.{sub-zero}
 use native.Mathlib.Omega.{arith}
@@ -8,7 +8,7 @@ use lib.ListN.{length, replicate, length-append, length-map, replicate-append-re
 use lib.IntN.{ℤ}
 use Rattle.lists.specs.Lists.{count}
 use Rattle.lists.proofs.Runs.{count-turn, count-end, count-all}
-use Rattle.table.specs.Table.{Table, Pair, boxes}
+use Rattle.table.specs.Table.{Table, boxes}
 use Rattle.table.specs.Words.{boxCount, pairCount, pairAt, pairNext, pairsAt, tableOf}
 use Rattle.table.proofs.Words.{pairs-turn, pairs-last}
 use Rattle.table.proofs.Tables.{table-pairs}

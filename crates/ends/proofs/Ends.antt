@@ -1,10 +1,10 @@
 -- An end that is seen well has boxes of 1 to 16 values; its support counted; a value's clause by whether its support is full.
-use mathlib.Core.Path.{_≡_, refl, sym, ap, _∙_}
+use mathlib.Core.Path.{_≡_, sym, _∙_}
 use mathlib.Core.Bool.{Bool, true, false, cond}
-use mathlib.Core.List.{List, [], _∷_, _++_, flatMap}
-use Prim.Native.Nat.{ℕ, suc, _+_, _-_, _*_, _≤_, _<_}
+use mathlib.Core.List.{List, [], _∷_, _++_}
+use Prim.Native.Nat.{ℕ, _+_, _-_, _≤_, _<_}
 use native.Mathlib.Omega.{arith}
-use lib.ListN.{length, getD, length-append, length-map}
+use lib.ListN.{length, getD, length-map}
 use lib.Dec.{eqb}
 use borrow.Author.Tests.{eq-eqb, ne-eqb}
 use Rattle.lists.specs.Lists.{count, those}
@@ -12,9 +12,9 @@ use Rattle.lists.proofs.Truth.{test}
 use Rattle.lists.proofs.Blocks.{length-count}
 use Rattle.table.specs.Table.{In}
 use Rattle.table.specs.Words.{sizeAt, PairStands}
-use Rattle.clause.specs.Clause.{minus, Clause, literalsIn}
+use Rattle.clause.specs.Clause.{minus, Clause}
 use Rattle.clause.specs.Numbers.{valueFrom}
-use Rattle.clause.specs.Ends.{End, supports, full, supportAt, supportClauses}
+use Rattle.clause.specs.Ends.{End, supports, full, supportAt}
 use Rattle.ends.specs.declared.Seen.{Seen}
 use Rattle.ends.specs.Seen.{SeenWell}
 use Rattle.lists.proofs.Runs.{count-turn, count-end, count-all}
@@ -91,25 +91,3 @@ module _ (e : End) (tail : Clause) (j : ℕ) where
   clause-one p = rw p
 
 -- ---- a tail makes each clause longer, and no clause more
-
-tails-clauses : (e : End) (tail : Clause) (l : List ℕ) → length (flatMap (supportAt e tail) l) ≡ length (flatMap (supportAt e []) l)
-unfolding flatMap supportAt
-tails-clauses e tail [] = refl
-tails-clauses e tail (j ∷ l) = test (full e j) (λ p. rw p (tails-clauses e tail l)) (λ p. rw p (ap suc (tails-clauses e tail l)))
-
-pub tail-clauses : (e : End) (tail : Clause) → length (supportClauses e tail) ≡ length (supportClauses e [])
-unfolding supportClauses
-tail-clauses e tail = tails-clauses e tail (count 1 (e .mine))
-
-tails-literals : (e : End) (tail : Clause) (l : List ℕ)
-    → literalsIn (flatMap (supportAt e tail) l) ≡ literalsIn (flatMap (supportAt e []) l) + length (flatMap (supportAt e []) l) * length tail
-unfolding flatMap supportAt literalsIn
-tails-literals e tail [] = omega arith
-tails-literals e tail (j ∷ l) =
-    test (full e j) (λ p. rw p (tails-literals e tail l))
-    (λ p. rw p (omega (arith, tails-literals e tail l, length-append (supports e j) tail, length-append (supports e j) [])))
-
-pub tail-literals : (e : End) (tail : Clause)
-    → literalsIn (supportClauses e tail) ≡ literalsIn (supportClauses e []) + length (supportClauses e []) * length tail
-unfolding supportClauses
-tail-literals e tail = tails-literals e tail (count 1 (e .mine))

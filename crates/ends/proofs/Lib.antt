@@ -1,4 +1,3 @@
 pub mod Values
 pub mod Ends
 pub mod Texts
-pub mod Boxes

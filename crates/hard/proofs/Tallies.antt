@@ -1,8 +1,7 @@
 -- How many clauses and literals a box has, by its number of values alone.
-use mathlib.Core.Path.{_≡_, refl, sym, ap, _∙_}
+use mathlib.Core.Path.{_≡_, refl, sym, _∙_}
 use Prim.Native.Nat.{ℕ, zero, suc, _+_, _-_, _*_, _/_, _≤_}
 use native.Mathlib.Omega.{arith}
-use lib.ListN.{length}
 use Rattle.clause.specs.declared.Hard.{Hard}
 use Rattle.clause.specs.declared.Hard.the-variants.{Standard, Regular}
 use Rattle.clause.specs.Clause.{literalsIn}
@@ -29,12 +28,6 @@ tally-any Regular v s (suc zero) = unfold regularBox literalsIn in refl
 tally-any Regular v s (suc (suc k)) =
     tally (regular-length (valueFrom v) (stepFrom s) k ∙ sym (regular-length (valueFrom 0) (stepFrom 0) k))
     (regular-literals (valueFrom v) (stepFrom s) k ∙ sym (regular-literals (valueFrom 0) (stepFrom 0) k))
-
-pub clauses-any : (hard : Hard) (v s m : ℕ) → length (boxWith hard v s m) ≡ boxTally hard m .clauses
-clauses-any hard v s m = ap (λ (t : Tally). t .clauses) (tally-any hard v s m)
-
-pub literals-any : (hard : Hard) (v s m : ℕ) → literalsIn (boxWith hard v s m) ≡ boxTally hard m .literals
-literals-any hard v s m = ap (λ (t : Tally). t .literals) (tally-any hard v s m)
 
 -- ---- in closed form
 

@@ -1,10 +1,9 @@
 -- Each way that reading a sheet with its list ends, with what is answered and what the two lent buffers then hold.
-use mathlib.Core.Path.{_≡_, refl, sym, ap, _∙_}
+use mathlib.Core.Path.{_≡_, refl}
 use mathlib.Core.Logic.{_≢_}
 use mathlib.Core.List.{List}
 use mathlib.Core.Option.{none, some}
 use Prim.Native.Nat.{ℕ, _+_, _≤_, _<_}
-use native.Mathlib.Omega.{arith}
 use lib.ListN.{length, take, drop}
 use lib.Seq.{sets, drop-drop}
 use borrow.Author.Tests.{le-leb, lt-leb, eq-eqb, ne-eqb}

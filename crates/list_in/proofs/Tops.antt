@@ -1,25 +1,24 @@
 -- What the sheet reader says of a text's top: an accepted sheet's words are a table of at most 4930 words, so they fit the local array.
 use mathlib.Core.Path.{_≡_, refl, sym, ap, _∙_}
-use mathlib.Core.Bool.{Bool, true, false}
-use mathlib.Core.List.{List, [], _∷_, flatMap}
+use mathlib.Core.Bool.{true}
+use mathlib.Core.List.{List, flatMap}
 use Prim.Native.Nat.{ℕ, _+_, _*_, _≤_}
 use native.Mathlib.Omega.{arith}
 use lib.ListN.{length, length-append, take}
 use lib.Dec.{leb}
-use borrow.Author.Tests.{le-leb, leb-true}
-use Rattle.lists.specs.Lists.{Each}
+use borrow.Author.Tests.{le-leb}
 use Rattle.lists.proofs.Sums.{each-as, sum-most, length-flat}
 use Rattle.lists.proofs.Stores.{sets-begins}
 use Rattle.refusal.specs.declared.Refusal.{Refusal}
 use Rattle.refusal.specs.declared.Refusal.the-variants.{Line}
 use Rattle.refusal.specs.Refusals.{placeOf}
 use Rattle.table.specs.Table.{Pair, Table, pairWords, wordsOf, SoundPair, Sound}
-use Rattle.table.specs.Words.{judged, accepted, Accepted}
+use Rattle.table.specs.Words.{accepted, Accepted}
 use Rattle.table.proofs.Words.{accepted-fine}
 use Rattle.table.proofs.Round.{sound-accepted}
 use Rattle.sheet.proofs.Sheets.{size-most}
 use Rattle.sheet_in.specs.declared.ReadSheet.{ReadSheet}
-use Rattle.sheet_in.specs.Parsed.{Parsed, sheet, faulty, parsed, fits, readOf, tableLeft}
+use Rattle.sheet_in.specs.Parsed.{Parsed, sheet, faulty, parsed, readOf, tableLeft}
 use Rattle.sheet_exact.proofs.Round.{read-written}
 use Rattle.list_in.specs.Listed.{firstFault}
 

@@ -12,7 +12,6 @@ use borrow.Author.Tests.{le-leb, lt-leb, leb-true}
 use Rattle.lists.proofs.Truth.{test}
 use Rattle.scan.specs.Stands.{begins}
 use Rattle.scan.proofs.Places.{begins-long}
-use Rattle.list_scan.specs.declared.ListLine.{ListLine}
 use Rattle.list_scan.specs.declared.ListLine.the-variants.{Entries, Bad, More}
 use Rattle.list_scan.specs.ListLines.{listKey, bitCount, entryOf, entriesOf, entriesFound, lineFound, lineStart}
 

@@ -7,7 +7,7 @@ use mathlib.Core.List.{List, [], _∷_, _++_, map, flatMap, append-assoc}
 use lib.ListN.{length, getD, take, length-append, List·getD-append}
 use lib.Seq.{getD-append-add}
 use Rattle.lists.specs.Lists.{count, sumOf}
-use Rattle.lists.proofs.Truth.{same, order}
+use Rattle.lists.proofs.Truth.{same}
 
 pub length-count : (s n : ℕ) → length (count s n) ≡ n
 length-count s zero = refl
@@ -57,24 +57,3 @@ flat-at (m ∷ ms) g s rest b i d L l h k =
     let y : m + u + i ≡ length (g s) + (u + i) = rw (long-head m ms g s L) (add-assoc m u i) in
     rw (z, append-assoc, y)
     (getD-append-add (g s) tl (u + i) d ∙ flat-at ms g (suc s) rest b i d (long-tail m ms g s L) (omega arith) (omega arith) (rw z at k)))
-
--- block b ends within the whole
-pub block-in : (ms : List ℕ) (s b : ℕ) → s ≤ b → b < s + length ms → sumOf (λ m. m) (take (b - s) ms) + getD ms (b - s) 0 ≤ sumOf (λ m. m) ms
-block-in [] s b l h = absurd (omega arith)
-block-in (m ∷ ms) s b l h =
-    same s b (λ q. rw (← q, sub-self) (omega arith))
-    (λ q. rw (next s b (omega arith)) (omega (arith, block-in ms (suc s) b (omega arith) (omega arith))))
-
--- every index lies in some block
-pub blocks-cover : (ms : List ℕ) (s : ℕ) (P : ℕ → Type 0)
-    → ((b i : ℕ) → s ≤ b → b < s + length ms → i < getD ms (b - s) 0 → P (sumOf (λ m. m) (take (b - s) ms) + i))
-    → (n : ℕ) → n < sumOf (λ m. m) ms → P n
-blocks-cover [] s P f n h = absurd (omega arith)
-blocks-cover (m ∷ ms) s P f n h =
-    order m n
-    (λ u.
-    let z : m + (n - m) ≡ n = omega arith in
-    rw z at (blocks-cover ms (suc s) (λ k. P (m + k)) (λ b i l g k.
-    let y = next s b (omega arith) in
-    rw add-assoc at (rw y at (f b i (omega arith) (omega arith) (rw y k)))) (n - m) (omega arith)))
-    (λ u. rw (sub-self, zero-add) at (f s n (omega arith) (omega arith) (rw sub-self u)))

@@ -36,11 +36,6 @@ module _ {A : Type 0} where
     unfolding firstOf
     first-found h e = let k : n - i ≡ suc (n - (i + 1)) = omega arith in rw (k, e)
 
-    -- where nothing is found, nothing is found here or further on
-    pub first-none : i < n → firstOf f next (n - i) at ≡ none → (f at ≡ none) × (firstOf f next (n - (i + 1)) (next at) ≡ none)
-    unfolding firstOf
-    first-none h e = let k : n - i ≡ suc (n - (i + 1)) = omega arith in then-none (f at) _ (rw k at e)
-
   -- where nothing is found among things one apart, nothing is found at any of them
   pub first-each : (f : ℕ → Option A) (n at i : ℕ) → firstOf f (λ k. k + 1) n at ≡ none → i < n → f (at + i) ≡ none
   unfolding firstOf

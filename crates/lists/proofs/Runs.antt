@@ -4,12 +4,11 @@ use mathlib.Core.Logic.{_≢_}
 use Prim.Native.Nat.{ℕ, zero, suc, _+_, _-_, _≤_, _<_}
 use native.Mathlib.Nat.{zero-add, add-zero}
 use native.Mathlib.Omega.{arith}
-use mathlib.Core.Bool.{Bool, true, false, not, _&&_, _||_, and-true}
-use mathlib.Core.List.{List, [], _∷_, _++_, flatMap, append-nil}
+use mathlib.Core.Bool.{Bool, true, false, not, _||_}
+use mathlib.Core.List.{[], _∷_}
 use lib.Dec.{T}
 use Rattle.lists.specs.Lists.{count, all, any, sumOf}
 use Rattle.lists.proofs.Truth.{and-left, and-right, both, test, clash, same}
-use Rattle.lists.proofs.Lists.{all-append, sum-append, flat-append}
 
 -- a test passes on the whole run: at each number of it, and the other way round
 pub all-at : (f : ℕ → Bool) (s n : ℕ) → all f (count s n) ≡ true → (j : ℕ) → s ≤ j → j < s + n → f j ≡ true
@@ -58,24 +57,6 @@ pub any-only : (f : ℕ → Bool) (s n b : ℕ) → s ≤ b → b < s + n → ((
 any-only f s n b l h g =
     test (f b) (λ p. at-any f s n b l h p ∙ sym p)
     (λ p. none-any f s n (λ j u v. same j b (λ q. rw q p) (λ q. g j u v q)) ∙ sym p)
-
--- ---- a run that grows at its end, as a loop goes through it
-
-pub count-snoc : (s n : ℕ) → count s (suc n) ≡ count s n ++ ((s + n) ∷ [])
-count-snoc s zero = ap (λ (k : ℕ). k ∷ []) (sym (add-zero s))
-count-snoc s (suc n) =
-    let z : suc s + n ≡ s + suc n = omega arith in ap (λ (l : List ℕ). s ∷ l) (count-snoc (suc s) n ∙ ap (λ (k : ℕ). count (suc s) n ++ (k ∷ [])) z)
-
-pub flat-snoc : {B : Type 0} (g : ℕ → List B) (s n : ℕ) → flatMap g (count s (suc n)) ≡ flatMap g (count s n) ++ g (s + n)
-unfolding flatMap
-flat-snoc g s n =
-    ap (flatMap g) (count-snoc s n) ∙ flat-append g (count s n) ((s + n) ∷ []) ∙ ap (λ (m : List _). flatMap g (count s n) ++ m) (append-nil (g (s + n)))
-
-pub sum-snoc : (f : ℕ → ℕ) (s n : ℕ) → sumOf f (count s (suc n)) ≡ sumOf f (count s n) + f (s + n)
-sum-snoc f s n = ap (sumOf f) (count-snoc s n) ∙ sum-append f (count s n) ((s + n) ∷ []) ∙ ap (λ (k : ℕ). sumOf f (count s n) + k) (add-zero (f (s + n)))
-
-pub all-snoc : (f : ℕ → Bool) (s n : ℕ) → all f (count s (suc n)) ≡ (all f (count s n) && f (s + n))
-all-snoc f s n = ap (all f) (count-snoc s n) ∙ all-append f (count s n) ((s + n) ∷ []) ∙ ap (λ (o : Bool). all f (count s n) && o) (and-true (f (s + n)))
 
 -- ---- a run from its front, as a loop counts: from j to n - 1
 

@@ -4,7 +4,7 @@ use mathlib.Core.List.{List, [], _∷_, _++_}
 use Prim.Native.Nat.{ℕ, suc, _+_, _≤_, _<_}
 use native.Mathlib.Nat.{add-zero, add-suc, suc-add}
 use native.Mathlib.Omega.{arith}
-use lib.ListN.{length, set, take, length-append}
+use lib.ListN.{length, take, length-append}
 use lib.Seq.{sets, sets-eq, set-out, length-sets, take-at}
 use Rattle.lists.specs.Stores.{Wrote, Owes}
 
@@ -16,10 +16,7 @@ module _ {A : Type 0} where
   pub wrote-none : (l : List A) (at : ℕ) → Wrote l at [] at l
   wrote-none l at = record { next = sym (add-zero at); list = refl }
 
-  -- one entry within the slice, and one past it
-  pub wrote-in : (l : List A) (at : ℕ) (v : A) → Wrote l at (v ∷ []) (at + 1) (set l at v)
-  wrote-in l at v = record { next = refl; list = refl }
-
+  -- one entry past the slice
   pub wrote-out : (l : List A) (at : ℕ) (v : A) → length l ≤ at → Wrote l at (v ∷ []) (at + 1) l
   wrote-out l at v h = record { next = refl; list = sym (set-out l at v h) }
 

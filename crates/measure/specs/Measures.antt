@@ -1,7 +1,6 @@
 -- The answers with the exact lengths and the scratch lengths: 8 for an unknown encoding, then the table's refusal.
-use Prim.Native.Nat.{ℕ}
 use mathlib.Core.Bool.{Bool, true, false}
-use mathlib.Core.List.{List, [], _∷_}
+use mathlib.Core.List.{[], _∷_}
 use Rattle.refusal.specs.Refusals.{Says, gives, refusalSays}
 use Rattle.table.specs.Table.{Table}
 use Rattle.table.specs.Words.{Outcome}

@@ -1,6 +1,6 @@
 -- How many variables stand before a box: a box more adds its own, and a box has one threshold less than values.
 use mathlib.Core.Path.{_≡_, refl, sym, ap, _∙_}
-use mathlib.Core.List.{List, [], _∷_, _++_, map}
+use mathlib.Core.List.{List, [], _∷_, map}
 use Prim.Native.Nat.{ℕ, zero, suc, _+_, _-_, _*_, _≤_, _<_, pred}
 use native.Mathlib.Nat.{add-zero}
 use native.Mathlib.Omega.{arith}
@@ -8,10 +8,10 @@ use lib.ListN.{length, getD, take, length-map}
 use lib.Seq.{take-suc, take-length}
 use Rattle.lists.specs.Lists.{sumOf, before, Each}
 use Rattle.lists.proofs.Lists.{sum-append}
-use Rattle.table.specs.Table.{Table, boxes, size, In, Sound}
+use Rattle.table.specs.Table.{boxes, In}
 use Rattle.table.specs.Words.{boxCount, pairCount, sizeAt, tableOf, Accepted}
 use Rattle.table.proofs.Words.{accepted-parts}
-use Rattle.table.proofs.Tables.{table-boxes, table-count, table-size, accepted-box}
+use Rattle.table.proofs.Tables.{table-boxes, table-count, table-size}
 use Rattle.clause.specs.declared.Hard.{Hard}
 use Rattle.clause.specs.declared.Hard.the-variants.{Standard, Regular}
 use Rattle.clause.specs.declared.Side.{Side}

@@ -2,7 +2,7 @@
 use clause::Hard;
 use clause::Side;
 ghost use mathlib.Core.Path.{_≡_};
-ghost use Prim.Native.Nat.{_+_, _≤_};
+ghost use Prim.Native.Nat.{_+_};
 ghost use Rattle.table.specs.Table.{In};
 ghost use Rattle.table.specs.Words.{boxCount, pairCount, tableOf, Accepted};
 ghost use Rattle.clause.specs.Numbers.{values, valueBase, stepBase, thresholds, switches};

@@ -7,11 +7,11 @@ use native.Mathlib.Omega.{arith}
 use lib.ListN.{length, length-append}
 use Rattle.clause.specs.declared.Side.{Side}
 use Rattle.clause.specs.declared.Side.the-variants.{Direct, Support, First, Literals, Score}
-use Rattle.clause.specs.Clause.{Lit, plus, minus, Clause, entriesOf, literalsIn}
+use Rattle.clause.specs.Clause.{Lit, plus, minus, literalsIn}
 use Rattle.clause.specs.Ends.{End, directClauses, supportClauses}
-use Rattle.clause.specs.Choice.{literalsFrom, byLiterals, byScore}
-use Rattle.clause.specs.Soft.{pick, softWith}
-use Rattle.clause.proofs.Lengths.{literals-append, entries-length, direct-literals, support-tail, support-tail-length, Small, Room, soft-room}
+use Rattle.clause.specs.Choice.{literalsFrom}
+use Rattle.clause.specs.Soft.{softWith}
+use Rattle.clause.proofs.Lengths.{literals-append, entries-length, direct-literals, support-tail, support-tail-length, Small, soft-room}
 use Rattle.hard.specs.declared.Tally.{Tally}
 use Rattle.hard.specs.Tallies.{tallyOf}
 use Rattle.hard.proofs.Tallies.{tally}

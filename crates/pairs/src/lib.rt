@@ -6,7 +6,7 @@ use hard::Tally;
 ghost use mathlib.Core.Path.{_≡_};
 ghost use Rattle.table.specs.Words.{Accepted, PairStands};
 ghost use mathlib.Core.List.{[]};
-ghost use Prim.Native.Nat.{_+_, _≤_};
+ghost use Prim.Native.Nat.{_+_};
 ghost use lib.ListN.{length};
 ghost use Rattle.table.specs.Words.{pairAt, tableOf};
 ghost use Rattle.clause.specs.Clause.{entriesOf};

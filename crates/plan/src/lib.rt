@@ -7,7 +7,7 @@ ghost use mathlib.Core.Path.{_≡_};
 ghost use Prim.Native.Nat.{_+_, _≤_, _<_};
 ghost use lib.ListN.{length};
 ghost use Rattle.lists.specs.Lists.{nth};
-ghost use Rattle.table.specs.Table.{boxes, In};
+ghost use Rattle.table.specs.Table.{boxes};
 ghost use Rattle.table.specs.Words.{boxCount, pairAt, tableOf, judged, Accepted, PairStands};
 ghost use Rattle.table.specs.Answers.{Counted};
 ghost use Rattle.reader.specs.Reader.{headAt};

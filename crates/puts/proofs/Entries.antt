@@ -26,10 +26,6 @@ passed z f e = ap (λ (y : ℤ). toZ w32 (ofZ w32 y)) e ∙ toZ-ofZ w32 z f
 
 -- ---- zeros
 
-pub length-zeros : (l : List ℤ) → length (zeros l) ≡ length l
-length-zeros [] = refl
-length-zeros (a ∷ l) = ap suc (length-zeros l)
-
 -- a turn of the loop that clears: i entries are done
 pub clear-step : (l : List ℤ) (i : ℕ) → i < length l → set (zeros (take i l) ++ drop i l) i (pos 0) ≡ zeros (take (suc i) l) ++ drop (suc i) l
 clear-step [] i h = absurd (omega arith)

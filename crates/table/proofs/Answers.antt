@@ -10,7 +10,7 @@ use Rattle.table.specs.declared.Got.the-variants.{Value, Wrong}
 use Rattle.table.specs.declared.Step.the-variants.{Next, Stop}
 use Rattle.table.specs.declared.Counts.{Counts}
 use Rattle.table.specs.declared.Checked.{Checked}
-use Rattle.table.specs.Table.{Table, boxes}
+use Rattle.table.specs.Table.{boxes}
 use Rattle.table.specs.Words.{Outcome, refused, accepted, settled, firstFault, tableOf, judged}
 use Rattle.table.specs.Answers.{gotOf, stepOf, checkedOf, Counted}
 

@@ -1,25 +1,24 @@
 -- What it says of the words that a part of the reading meets no fault: each word read is there, and lies in its range.
 use mathlib.Core.Path.{_≡_, refl, sym, ap, _∙_, subst}
 use mathlib.Core.Logic.{_≢_}
-use mathlib.Core.Bool.{true, not}
 use mathlib.Core.Option.{Option, none, some}
 use mathlib.Core.List.{List, _∷_, []}
-use Prim.Native.Nat.{ℕ, zero, suc, _+_, _-_, _/_, _^_, _≤_, _<_}
+use Prim.Native.Nat.{ℕ, zero, suc, _+_, _-_, _^_, _≤_, _<_}
 use native.Mathlib.Omega.{arith}
 use lib.ListN.{length, getD, take, drop, length-drop}
 use lib.Seq.{length-take-le}
-use lib.Dec.{ltb, leb, eqb}
-use borrow.Author.Tests.{ltb-true, leb-true, eqb-true, eqb-false, not-true, ne-eqb}
+use lib.Dec.{ltb, leb}
+use borrow.Author.Tests.{ltb-true, leb-true, eqb-true, eqb-false, not-true}
 use Rattle.lists.specs.Firsts.{_then_, unless, firstOf}
 use Rattle.lists.proofs.Bits.{shift-none}
-use Rattle.lists.proofs.Firsts.{unless-none, then-none, first-none, first-each}
+use Rattle.lists.proofs.Firsts.{unless-none, then-none, first-each}
 use Rattle.refusal.specs.declared.Refusal.{Refusal}
-use Rattle.refusal.specs.declared.Refusal.the-variants.{Missing, Extra, Count, Domain, Partner, Weight, Mask}
+use Rattle.refusal.specs.declared.Refusal.the-variants.{Missing, Count, Domain, Partner, Weight}
 use Rattle.table.specs.declared.Got.{Got}
 use Rattle.table.specs.declared.Got.the-variants.{Value}
-use Rattle.table.specs.Table.{Pair, Table, In, boxes}
+use Rattle.table.specs.Table.{Table, In, boxes}
 use Rattle.table.specs.Words.{boxCount, pairCount, sizeAt, pairNext, pairsEnd, pairAt, pairsAt, tableOf, rangeFault, maskFault, sizeFault}
-use Rattle.table.specs.Words.{sizesFault, masksFault, partnersFault, pairFault, pairsFault, bodyFault, firstFault, settled, judged, refused}
+use Rattle.table.specs.Words.{sizesFault, partnersFault, pairFault, pairsFault, bodyFault, firstFault, settled, judged, refused}
 use Rattle.table.specs.Words.{accepted, Accepted, BoxStands, PairStands, Ahead}
 use Rattle.table.specs.declared.Checked.{Checked}
 use Rattle.table.specs.Answers.{gotOf, checkedOf, checkedWith, bodyOf}

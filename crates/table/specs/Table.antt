@@ -3,7 +3,7 @@ use Prim.Native.Nat.{ℕ, _^_, _≤_, _<_}
 use mathlib.Core.Path.{_≡_}
 use mathlib.Core.Logic.{_≢_}
 use mathlib.Core.Bool.{Bool}
-use mathlib.Core.List.{List, [], _∷_, _++_, flatMap}
+use mathlib.Core.List.{List, _∷_, _++_, flatMap}
 use lib.ListN.{length}
 use Rattle.lists.specs.Lists.{nth, Each}
 use Rattle.lists.specs.Bits.{inMask}

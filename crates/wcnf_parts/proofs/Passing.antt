@@ -7,7 +7,7 @@ use lib.ListN.{length, take}
 use lib.IntN.{ℤ}
 use Rattle.lists.specs.Stores.{Wrote}
 use Rattle.lists.proofs.Stores.{wrote-long}
-use Rattle.table.specs.Words.{boxCount, pairAt, tableOf, Accepted, BoxStands, PairStands}
+use Rattle.table.specs.Words.{boxCount, pairAt, tableOf, Accepted, PairStands}
 use Rattle.table.specs.Table.{In}
 use Rattle.table.proofs.Tables.{accepted-box}
 use Rattle.clause.specs.declared.Hard.{Hard}

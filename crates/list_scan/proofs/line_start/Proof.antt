@@ -2,8 +2,8 @@
 use Rattle.list_scan.proofs.ListLines.{start-none, start-here, start-step}
 use Rattle.list_scan.specs.ListLines.{lineStart}
 use lib.ListN.{length, drop}
-use mathlib.Core.Path.{_≡_, refl, sym, ap, _∙_}
-use Prim.Native.Nat.{ℕ, _+_, _-_, _≤_}
+use mathlib.Core.Path.{_≡_}
+use Prim.Native.Nat.{_+_, _-_, _≤_}
 use native.Mathlib.Nat.{zero-add}
 use native.Mathlib.Omega.{arith}
 use Rattle.list_scan.proofs.line_start.Statement.{statement}

@@ -1,8 +1,7 @@
 -- Below 0 the difference from 0, which 64 bits hold.
-use Rattle.wcnf.proofs.Signed.{back, widened, wide-back, Below, below, least}
+use Rattle.wcnf.proofs.Signed.{back, widened, wide-back, below, least}
 use mir.ValLaws.{toZ-ofZ}
-use mir.Syntax.{w32, w64}
-use borrow.Author.Needs.{needs}
+use mir.Syntax.{w64}
 use Rattle.wcnf.proofs.magnitude.Statement.{statement}
 use Rattle.wcnf.proofs.magnitude.Tie as tie
 

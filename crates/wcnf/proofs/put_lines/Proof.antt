@@ -1,13 +1,13 @@
 -- What is left of the entries is still owed, after the entry before.
 use Rattle.lists.proofs.Stores.{owes-all, owes-part, owes-none}
-use Rattle.lists.specs.Stores.{Wrote, Owes}
+use Rattle.lists.specs.Stores.{Owes}
 use Rattle.wcnf.proofs.Signed.{back}
 use Rattle.wcnf.proofs.Lines.{entry-short, entries-turn, entries-end}
 use Rattle.wcnf.specs.Entries.{entriesFrom, entriesText}
 use mir.Syntax.{w32}
 use mir.Val.{SFits, toZ}
-use lib.IntN.{ℤ, pos}
-use lib.ListN.{length, getD, drop, drop-of-length-le}
+use lib.IntN.{pos}
+use lib.ListN.{length, getD, drop}
 use Prim.Native.Nat.{_+_, _*_, _-_, _≤_}
 use native.Mathlib.Omega.{arith}
 use borrow.Author.Needs.{needs}

@@ -1,9 +1,6 @@
 -- The sign, and then the digits.
 use Rattle.lists.proofs.Stores.{wrote-append}
-use Rattle.lists.specs.Stores.{Wrote}
-use Rattle.lists.specs.Decimal.{digits}
 use Rattle.wcnf.proofs.Signed.{back, signed-parts, signed-long}
-use Rattle.wcnf.specs.Entries.{sign}
 use native.Mathlib.Omega.{arith}
 use borrow.Author.Needs.{needs}
 use Rattle.wcnf.proofs.put_signed.Statement.{statement}

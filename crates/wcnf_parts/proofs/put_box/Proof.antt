@@ -3,7 +3,6 @@ use Rattle.wcnf_parts.proofs.Passing.{box-short, fits, passed, few, pri
 use Rattle.wcnf.proofs.Named.{hard-named}
 use Rattle.table.specs.Words.{tableOf}
 use Rattle.clause.specs.Hard.{boxClauses}
-use lib.ListN.{length}
 use borrow.Author.Needs.{needs}
 use Rattle.wcnf_parts.proofs.put_box.Statement.{statement}
 use Rattle.wcnf_parts.proofs.put_box.Tie as tie

@@ -2,13 +2,11 @@
 use Rattle.wcnf_parts.proofs.Passing.{pair-short, fits, passed, few, printed}
 use Rattle.wcnf.proofs.Named.{soft-named}
 use Rattle.table.specs.Words.{pairAt, tableOf}
-use Rattle.table.proofs.Tables.{pair-weight}
 use Rattle.clause.specs.Clause.{plus, minus}
 use Rattle.clause.specs.Soft.{soft}
 use Rattle.reader.specs.declared.PairHead.{PairHead}
 use mathlib.Core.List.{[], _∷_}
-use mathlib.Core.Path.{_≡_, ap, _∙_}
-use lib.ListN.{length}
+use mathlib.Core.Path.{ap, _∙_}
 use borrow.Author.Needs.{needs}
 use Rattle.wcnf_parts.proofs.put_pair.Statement.{statement}
 use Rattle.wcnf_parts.proofs.put_pair.Tie as tie

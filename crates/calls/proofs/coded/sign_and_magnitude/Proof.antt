@@ -1,7 +1,7 @@
 -- Below 0 the difference from 0, which 64 bits hold.
-use Rattle.wcnf.proofs.Signed.{back, widened, wide-back, Below, below, least}
+use Rattle.wcnf.proofs.Signed.{back, widened, wide-back, below, least}
 use mir.ValLaws.{toZ-ofZ}
-use mir.Syntax.{w32, w64}
+use mir.Syntax.{w64}
 use borrow.Author.Needs.{needs}
 use Rattle.calls.proofs.coded.sign_and_magnitude.Statement.{statement}
 use Rattle.calls.proofs.coded.sign_and_magnitude.Tie as tie
