@@ -18,7 +18,7 @@ fn put_long_line(out: &mut [u8], at: usize, key: &[u8], n: u64) -> usize
 }
 
 // The line of one box's value: at most 17 bytes.
-pub fn put_value(out: &mut [u8], at: usize, v: u32) -> usize
+fn put_value(out: &mut [u8], at: usize, v: u32) -> usize
     requires { ⌜ at + 17 < 2 ^ 64 ⌝ }
     ensures { λ r. ⌜ Wrote (now (out .entry)) at (valueLine v) r (now (out .exit)) × (r ≤ at + 17) ⌝ }
 {
@@ -26,7 +26,7 @@ pub fn put_value(out: &mut [u8], at: usize, v: u32) -> usize
 }
 
 // The line of the cost: at most 26 bytes.
-pub fn put_cost(out: &mut [u8], at: usize, cost: u64) -> usize
+fn put_cost(out: &mut [u8], at: usize, cost: u64) -> usize
     requires { ⌜ at + 26 < 2 ^ 64 ⌝ }
     ensures { λ r. ⌜ Wrote (now (out .entry)) at (costLine cost) r (now (out .exit)) ⌝ }
 {

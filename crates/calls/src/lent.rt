@@ -44,7 +44,7 @@ pub fn fill_words(case: &[u32], which: usize, out: &mut [u32]) {
 
 fn fill_literal(out: &mut [i32], i: usize, seed: u32) {
     if i < out.len() {
-        out[i] = puts::literal(pattern(seed, i));
+        out[i] = pattern(seed, i) as i32;
     }
 }
 

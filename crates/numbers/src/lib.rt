@@ -22,7 +22,7 @@ pub fn value_base(words: &[u32], b: u32) -> u32
 }
 
 // How many values the boxes have in all.
-pub fn value_count(words: &[u32], n: u32) -> u32
+fn value_count(words: &[u32], n: u32) -> u32
     requires { ⌜ Accepted (now words) × (n ≡ boxCount (now words)) ⌝ }
     ensures { λ r. ⌜ r ≡ values (tableOf (now (words .entry))) ⌝ }
 {

@@ -17,12 +17,6 @@ use Rattle.direct.proofs as direct
 use Rattle.choice.proofs as choice
 use Rattle.pairs.proofs as pairs
 
-pub puts-literal-decided : Decided puts.literal.ended puts.literal.Reads.Post
-puts-literal-decided = decided λ _ _ _ _ p q. search same
-
-pub puts-negation-decided : Decided puts.negation.ended puts.negation.Reads.Post
-puts-negation-decided = decided λ _ _ _ _ p q. search same
-
 pub puts-put-plus-decided : Decided puts.put_plus.ended puts.put_plus.Reads.Post
 puts-put-plus-decided = decided λ _ _ _ _ p q. search same
 
@@ -49,9 +43,6 @@ asked-ask-decided = decided λ _ _ _ _ p q. search same
 
 pub numbers-value-base-decided : Decided numbers.value_base.ended numbers.value_base.Reads.Post
 numbers-value-base-decided = decided λ _ _ _ _ p q. search same
-
-pub numbers-value-count-decided : Decided numbers.value_count.ended numbers.value_count.Reads.Post
-numbers-value-count-decided = decided λ _ _ _ _ p q. search same
 
 pub numbers-step-base-decided : Decided numbers.step_base.ended numbers.step_base.Reads.Post
 numbers-step-base-decided = decided λ _ _ _ _ p q. search same

@@ -28,9 +28,6 @@ table-check-decided = decided λ _ _ _ _ p q. search same
 pub reader-pair-at-decided : Decided reader.pair_at.ended reader.pair_at.Reads.Post
 reader-pair-at-decided = decided λ _ _ _ _ p q. search same
 
-pub reader-mask-at-decided : Decided reader.mask_at.ended reader.mask_at.Reads.Post
-reader-mask-at-decided = decided λ _ _ _ _ p q. search same
-
 pub reader-allows-decided : Decided reader.allows.ended reader.allows.Reads.Post
 reader-allows-decided = decided λ _ _ _ _ p q. search same
 

@@ -29,9 +29,6 @@ text-out-put-row-decided = decided λ _ _ _ _ p q. search same
 pub scan-starts-decided : Decided scan.starts.ended scan.starts.Reads.Post
 scan-starts-decided = decided λ _ _ _ _ p q. search same
 
-pub scan-number-at-decided : Decided scan.number_at.ended scan.number_at.Reads.Post
-scan-number-at-decided = decided λ _ _ _ _ p q. search same
-
 pub scan-number-line-decided : Decided scan.number_line.ended scan.number_line.Reads.Post
 scan-number-line-decided = decided λ _ _ _ _ p q. search same
 
@@ -40,12 +37,6 @@ scan-word-line-decided = decided λ _ _ _ _ p q. search same
 
 pub row-scan-row-line-decided : Decided row-scan.row_line.ended row-scan.row_line.Reads.Post
 row-scan-row-line-decided = decided λ _ _ _ _ p q. search same
-
-pub answer-out-put-value-decided : Decided answer-out.put_value.ended answer-out.put_value.Reads.Post
-answer-out-put-value-decided = decided λ _ _ _ _ p q. search same
-
-pub answer-out-put-cost-decided : Decided answer-out.put_cost.ended answer-out.put_cost.Reads.Post
-answer-out-put-cost-decided = decided λ _ _ _ _ p q. search same
 
 pub answer-out-put-answer-decided : Decided answer-out.put_answer.ended answer-out.put_answer.Reads.Post
 answer-out-put-answer-decided = decided λ _ _ _ _ p q. search same

@@ -20,14 +20,14 @@ fn put(out: &mut [i32], at: usize, v: i32) -> usize
 }
 
 // A variable as a literal, and its negation.
-pub fn literal(v: u32) -> i32
+fn literal(v: u32) -> i32
     requires { ⌜ v < 2 ^ 31 ⌝ }
     ensures { λ r. ⌜ r ≡ pos v ⌝ }
 {
     v as i32
 }
 
-pub fn negation(v: u32) -> i32
+fn negation(v: u32) -> i32
     requires { ⌜ v < 2 ^ 31 ⌝ }
     ensures { λ r. ⌜ r ≡ neg v ⌝ }
 {

@@ -66,7 +66,7 @@ pub fn pair_at(words: &[u32], at: usize) -> PairHead
 }
 
 // The mask of value `i` of the first box of the pair at `at`.
-pub fn mask_at(words: &[u32], at: usize, i: u32) -> u32
+fn mask_at(words: &[u32], at: usize, i: u32) -> u32
     requires { ⌜ PairStands (now words) at × In 1 (sizeAt (now words) (getD (now words) at 0)) i ⌝ }
     ensures { λ r. ⌜ r ≡ nth (pairAt (now (words .entry)) at .masks) i ⌝ }
 {

@@ -31,7 +31,7 @@ pub fn starts(s: &[u8], at: usize, t: &[u8]) -> bool
 }
 
 // A number from `low` to `high` at `at`, and the byte `stop` that closes it.
-pub fn number_at(s: &[u8], at: usize, stop: u8, low: u32, high: u32) -> Line
+fn number_at(s: &[u8], at: usize, stop: u8, low: u32, high: u32) -> Line
     ensures { λ r. ⌜ r ≡ numberAt stop low high at (drop at (now (s .entry))) ⌝ }
 {
     if s.len() <= at {
