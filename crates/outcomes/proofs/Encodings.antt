@@ -5,6 +5,7 @@ use Rattle.totals.proofs as totals
 use Rattle.measure.proofs as measure
 use Rattle.soft.proofs as soft
 use Rattle.parts.proofs as parts
+use Rattle.weights.proofs as weights
 use Rattle.whole.proofs as whole
 use Rattle.clauses_out.proofs as clauses-out
 use Rattle.room.proofs as room
@@ -46,11 +47,11 @@ parts-put-box-decided = decided λ _ _ _ _ p q. search same
 pub parts-put-hard-decided : Decided parts.put_hard.ended parts.put_hard.Reads.Post
 parts-put-hard-decided = decided λ _ _ _ _ p q. search same
 
-pub parts-weigh-hard-decided : Decided parts.weigh_hard.ended parts.weigh_hard.Reads.Post
-parts-weigh-hard-decided = decided λ _ _ _ _ p q. search same
+pub weights-weigh-hard-decided : Decided weights.weigh_hard.ended weights.weigh_hard.Reads.Post
+weights-weigh-hard-decided = decided λ _ _ _ _ p q. search same
 
-pub parts-weigh-soft-decided : Decided parts.weigh_soft.ended parts.weigh_soft.Reads.Post
-parts-weigh-soft-decided = decided λ _ _ _ _ p q. search same
+pub weights-weigh-soft-decided : Decided weights.weigh_soft.ended weights.weigh_soft.Reads.Post
+weights-weigh-soft-decided = decided λ _ _ _ _ p q. search same
 
 pub parts-put-soft-decided : Decided parts.put_soft.ended parts.put_soft.Reads.Post
 parts-put-soft-decided = decided λ _ _ _ _ p q. search same

@@ -21,7 +21,8 @@ use Rattle.clause.specs.Lengths.{clauseCount, top}
 use Rattle.clause.specs.Numbers.{values, thresholds, variables}
 use Rattle.clause.specs.Soft.{soft}
 use Rattle.clause.proofs.Turns.{hardFrom, hard-turn, hard-end, softAhead, soft-turn, soft-end}
-use Rattle.parts.proofs.Writing.{soft-start, switched}
+use Rattle.totals.proofs.Starts.{soft-start}
+use Rattle.parts.proofs.Writing.{switched}
 use Rattle.measure.specs.declared.Lengths.{Lengths}
 use Rattle.measure.specs.Measures.{lengthsFor}
 use Rattle.wcnf.specs.Wcnf.{headerText, linesOf, shown, bodyText, wcnfText}

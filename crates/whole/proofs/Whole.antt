@@ -14,7 +14,7 @@ use Rattle.clause.specs.declared.Side.{Side}
 use Rattle.clause.specs.Clause.{entriesOf, entries, weights}
 use Rattle.clause.specs.List.{hardPart, softPart, clauses}
 use Rattle.clause.proofs.Turns.{entries-clauses, weights-clauses}
-use Rattle.parts.proofs.Writing.{weights-any}
+use Rattle.weights.proofs.Weighing.{weights-any}
 
 module _ (h : Hard) (s : Side) (t : Table) where
   entries-long : length (entries (clauses h s t)) ≡ length (entriesOf (hardPart h t)) + length (entries (softPart h s t))

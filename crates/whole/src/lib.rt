@@ -47,8 +47,8 @@ pub fn weigh_all(words: &[u32], counts: Counts, part: Hard, side: Side, out: &mu
     ensures { λ r. ⌜ Wrote (now (out .entry)) 0 (weights (clauses part side (tableOf (now (words .entry))))) r (now (out .exit)) ⌝ }
 {
     let n = lists::word(words, 0);
-    let middle = parts::weigh_hard(words, n, part, out, 0);
-    parts::weigh_soft(words, counts, side, out, middle)
+    let middle = weights::weigh_hard(words, n, part, out, 0);
+    weights::weigh_soft(words, counts, side, out, middle)
 }
 
 // A scratch slice after use: zero whole on the sides that choose, untouched on the others.

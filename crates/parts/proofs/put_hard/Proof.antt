@@ -1,5 +1,5 @@
 -- What the boxes ahead have is still owed.
-use Rattle.parts.proofs.Writing.{hard-start}
+use Rattle.totals.proofs.Starts.{hard-start}
 use Rattle.clause.specs.Hard.{boxClauses}
 use Rattle.clause.proofs.Turns.{hardFrom, hard-text, hard-end}
 use Rattle.clause.proofs.Lengths.{entriesOf-none}

@@ -1,13 +1,14 @@
 -- What is counted and what the boxes ahead come to make up the hard part.
+use Rattle.totals.proofs.Starts.{hard-start}
 use Rattle.totals.proofs.Counting.{Makes, makes-all, makes-turn, makes-none, box-tally-is, box-few, few-part}
 use Rattle.hard.specs.Tallies.{boxTally}
-use Rattle.clause.proofs.Turns.{hardFrom, hard-turn, hard-end, hard-all}
+use Rattle.clause.proofs.Turns.{hardFrom, hard-turn, hard-end}
 use Rattle.clause.specs.List.{hardPart}
-use Rattle.table.proofs.Tables.{accepted-box, table-boxes}
+use Rattle.table.proofs.Tables.{accepted-box}
 use Rattle.table.proofs.Words.{accepted-parts}
 use Rattle.table.specs.Words.{tableOf}
-use Prim.Native.Nat.{ℕ, _+_, _-_, _*_, _≤_}
-use mathlib.Core.Path.{sym, ap, _∙_}
+use Prim.Native.Nat.{_+_, _-_, _*_, _≤_}
+use mathlib.Core.Path.{ap, _∙_}
 use native.Mathlib.Omega.{arith}
 use borrow.Author.Needs.{needs}
 use Rattle.totals.proofs.hard_tally.Statement.{statement}
@@ -26,12 +27,10 @@ abbrev μ-loop : tie.MeasureT-loop
 
 loop-holds : tie.Need-loop-holds Inv-loop μ-loop
 loop-holds c =
-    let s = c .before in
-    let ws = s .args .words .now in
-    let n = s .pre .1 ∙ sym (table-boxes ws (s .pre .0)) in (
+    let s = c .before in (
       omega arith,
       omega arith,
-      makes-all (ap (λ (k : ℕ). hardFrom (s .args .hard) (tableOf ws) k 1) n ∙ hard-all (s .args .hard) (tableOf ws)),
+      makes-all (hard-start (s .args .hard) (s .args .words .now) (s .args .n) (s .pre .0) (s .pre .1)),
       omega arith,
       omega arith,
     )

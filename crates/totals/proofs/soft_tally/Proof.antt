@@ -1,7 +1,8 @@
 -- What is counted and what the pairs ahead come to make up the soft part.
+use Rattle.totals.proofs.Starts.{soft-start}
 use Rattle.totals.proofs.Counting.{Makes, makes-all, makes-turn, makes-none, few-part}
 use Rattle.pairs.proofs.Sight.{pair-tally-is, pair-room}
-use Rattle.clause.proofs.Turns.{softAhead, bare-turn, soft-end, soft-all}
+use Rattle.clause.proofs.Turns.{softAhead, bare-turn, soft-end}
 use Rattle.clause.specs.List.{softPart}
 use Rattle.clause.specs.Clause.{bare}
 use Rattle.clause.specs.declared.Hard.the-variants.{Standard}
@@ -38,13 +39,11 @@ loop-holds : tie.Need-loop-holds Inv-loop μ-loop
 loop-holds c =
     let s = c .before .before in
     let ws = s .args .words .now in
-    let b = counted-start ws (s .args .counts) (s .pre) in
-    let start : softAhead Standard (s .args .side) ws (s .args .counts .pairs) 0 (s .args .counts .boxes + 2) ≡ softPart Standard (s .args .side) (tableOf ws)
-    = rw (b .pairs, b .boxes) (soft-all Standard (s .args .side) ws) in (
+    let b = counted-start ws (s .args .counts) (s .pre) in (
       omega arith,
       omega (arith, b .pairs, b .few-pairs),
       rw sub-zero (b .ahead),
-      makes-all (ap bare start),
+      makes-all (ap bare (soft-start Standard (s .args .side) ws (s .args .counts) (s .pre))),
       omega arith,
       omega arith,
     )

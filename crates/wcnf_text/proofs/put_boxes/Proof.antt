@@ -1,7 +1,7 @@
 -- What the boxes ahead have is still owed.
 use Rattle.wcnf_text.proofs.Texts.{boxes-turn, boxes-end}
 use Rattle.wcnf.specs.Wcnf.{linesOf}
-use Rattle.parts.proofs.Writing.{hard-start}
+use Rattle.totals.proofs.Starts.{hard-start}
 use Rattle.clause.proofs.Turns.{hardFrom}
 use Rattle.clause.specs.Clause.{entriesOf}
 use Rattle.clause.specs.Hard.{boxClauses}

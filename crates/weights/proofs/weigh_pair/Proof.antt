@@ -4,8 +4,8 @@ use Rattle.hard.specs.declared.Tally.{Tally}
 use native.Mathlib.Omega.{arith}
 use mathlib.Core.Path.{ap, _∙_}
 use borrow.Author.Needs.{needs}
-use Rattle.parts.proofs.weigh_pair.Statement.{statement}
-use Rattle.parts.proofs.weigh_pair.Tie as tie
+use Rattle.weights.proofs.weigh_pair.Statement.{statement}
+use Rattle.weights.proofs.weigh_pair.Tie as tie
 
 pair-tally-requires : tie.Need-pair-tally-requires
 pair-tally-requires c κs = search needs

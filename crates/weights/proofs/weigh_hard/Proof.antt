@@ -1,5 +1,5 @@
 -- What the boxes ahead have is still owed.
-use Rattle.parts.proofs.Writing.{hard-start}
+use Rattle.totals.proofs.Starts.{hard-start}
 use Rattle.totals.proofs.Counting.{box-tally-is}
 use Rattle.hard.specs.Tallies.{boxTally}
 use Rattle.hard.specs.declared.Tally.{Tally}
@@ -18,8 +18,8 @@ use mathlib.Core.List.{List}
 use mathlib.Core.Path.{_≡_, ap, _∙_}
 use native.Mathlib.Omega.{arith}
 use borrow.Author.Needs.{needs}
-use Rattle.parts.proofs.weigh_hard.Statement.{statement}
-use Rattle.parts.proofs.weigh_hard.Tie as tie
+use Rattle.weights.proofs.weigh_hard.Statement.{statement}
+use Rattle.weights.proofs.weigh_hard.Tie as tie
 
 abbrev Inv-loop : tie.InvT-loop
 Inv-loop words n part out₀ from at₀ b₀ out at b =

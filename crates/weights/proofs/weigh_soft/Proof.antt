@@ -1,6 +1,7 @@
 -- What the pairs ahead have is still owed.
-use Rattle.parts.proofs.Writing.{soft-start, weights-turn}
-use Rattle.parts.specs.Parts.{pairCount}
+use Rattle.totals.proofs.Starts.{soft-start}
+use Rattle.weights.proofs.Weighing.{weights-turn}
+use Rattle.weights.specs.Weights.{pairCount}
 use Rattle.clause.proofs.Turns.{softAhead, soft-end}
 use Rattle.clause.specs.List.{softPart}
 use Rattle.clause.specs.Clause.{weights}
@@ -16,8 +17,8 @@ use native.Mathlib.Nat.{sub-zero}
 use native.Mathlib.Omega.{arith}
 use mathlib.Core.Path.{_≡_, ap}
 use borrow.Author.Needs.{needs}
-use Rattle.parts.proofs.weigh_soft.Statement.{statement}
-use Rattle.parts.proofs.weigh_soft.Tie as tie
+use Rattle.weights.proofs.weigh_soft.Statement.{statement}
+use Rattle.weights.proofs.weigh_soft.Tie as tie
 
 abbrev Inv-loop : tie.InvT-loop
 Inv-loop words side out₀ from p cursor₀ at₀ k₀ out cursor at k =
