@@ -21,6 +21,10 @@ pub fit-short : (o : Option Refusal) {f : Refusal} → fitOf o ≡ Fit.Short f �
 fit-short none e = cc
 fit-short (some g) e = cc
 
+-- a judgement by numbers that were measured is one by what they are equal to
+pub as-judged : {A B : Type 0} (f : A → B → Option Refusal) {a m : A} {b n : B} {r : Fit} → a ≡ m → b ≡ n → r ≡ fitOf (f a b) → r ≡ fitOf (f m n)
+as-judged f e g h = rw (e, g) at h
+
 -- where neither of two is too short, both hold what they need
 two-hold : (a b first second : ℕ) → twoFault a b first second ≡ none
     → (a ≤ first) × (b ≤ second)

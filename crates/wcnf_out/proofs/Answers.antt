@@ -1,4 +1,4 @@
--- What is answered and left: the room judged by the numbers that were measured, and the two outcomes.
+-- What is answered and left: the two outcomes.
 use mathlib.Core.Path.{_≡_, refl, ap}
 use mathlib.Core.List.{List}
 use Prim.Native.Nat.{ℕ}
@@ -10,20 +10,13 @@ use Rattle.refusal.specs.declared.Refusal.{Refusal}
 use Rattle.table.specs.Table.{Table}
 use Rattle.clause.specs.declared.Encoding.{Encoding}
 use Rattle.clause.specs.Ends.{one, two}
-use Rattle.measure.specs.declared.Scratch.{Scratch}
 use Rattle.parts.specs.Parts.{scratchThrough}
-use Rattle.room.specs.declared.Fit.{Fit}
-use Rattle.room.specs.Room.{textFault, fitOf}
 use Rattle.whole.specs.Scratch.{scratchLeft}
 use Rattle.whole.proofs.Scratch.{left}
 use Rattle.whole.specs.Verdict.{no, yes}
 use Rattle.wcnf_text.specs.Text.{textOf}
 use Rattle.wcnf_out.specs.declared.Written.{Written}
 use Rattle.wcnf_out.specs.Written.{Outcomes}
-
-pub room-as-judged : {s k : Scratch} {long n : ℕ} (first second text : ℕ) {r : Fit} → s ≡ k → long ≡ n
-    → r ≡ fitOf (textFault s long first second text) → r ≡ fitOf (textFault k n first second text)
-room-as-judged first second text e f g = rw (e, f) at g
 
 -- a refusal leaves all as it was
 pub refusal-left : (f : Refusal) (first second : List ℤ) (text : List ℕ) → Outcomes (no f) first second text (Written.Refused f) first second text

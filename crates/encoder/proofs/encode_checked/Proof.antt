@@ -1,12 +1,12 @@
 -- The room is judged by the counts that were measured.
-use Rattle.encoder.proofs.Judged.{room-as-judged, refusal-left, list-left}
-use Rattle.room.proofs.Fits.{fit-enough, fit-short, clauses-hold}
-use Rattle.clause.specs.declared.Encoding.{Encoding}
+use Rattle.encoder.proofs.Judged.{refusal-left, list-left}
+use Rattle.room.proofs.Fits.{as-judged, fit-enough, fit-short, clauses-hold}
 use mathlib.Core.List.{List}
 use lib.IntN.{ℤ}
 use Rattle.room.specs.Room.{clausesFault}
 use Rattle.measure.specs.Measures.{lengthsFor, scratchFor}
 use Rattle.measure.specs.declared.Lengths.{Lengths}
+use Rattle.measure.specs.declared.Scratch.{Scratch}
 use Rattle.table.specs.Words.{tableOf}
 use Rattle.refusal.specs.declared.Refusal.{Refusal}
 use lib.ListN.{length}
@@ -18,11 +18,9 @@ use borrow.Author.Needs.{needs}
 use Rattle.encoder.proofs.encode_checked.Statement.{statement}
 use Rattle.encoder.proofs.encode_checked.Tie as tie
 
--- the judgement of the room over the measured counts
-abbrev fault : Encoding → List ℕ → (first second literals : List ℤ) → List ℕ → Option Refusal
-fault e ws first second literals weights =
-    let t = tableOf ws in
-    clausesFault (lengthsFor e t) (scratchFor (e .side) t) (length first) (length second) (length literals) (length weights)
+-- the room of these buffers, by counts
+abbrev fault : (first second literals : List ℤ) → List ℕ → Lengths → Scratch → Option Refusal
+fault first second literals weights n k = clausesFault n k (length first) (length second) (length literals) (length weights)
 
 measure-requires : tie.Need-measure-requires
 measure-requires c κs = search needs
@@ -46,8 +44,10 @@ write-all-requires c κs =
     let k = room .before .scratch-over in
     let m = room .before .before .measure in
     let s = room .before .before .before .before .before in
-    let short = fault (s .args .e) (s .args .words .now) (s .args .first .now) (s .args .second .now) (s .args .literals .now) (s .args .weights .now) in
-    let e = fit-enough short (sym (room-as-judged _ _ _ _ (m .ensures) (k .ensures) (room .for-clauses .ensures)) ∙ told .enum-told .given .1) in
+    let t = tableOf (s .args .words .now) in
+    let short = fault (s .args .first .now) (s .args .second .now) (s .args .literals .now) (s .args .weights .now) in
+    let judged = sym (as-judged short (m .ensures) (k .ensures) (room .for-clauses .ensures)) in
+    let e = fit-enough (short (lengthsFor (s .args .e) t) (scratchFor (s .args .e .side) t)) (judged ∙ told .enum-told .given .1) in
     let holds = clauses-hold _ _ _ _ _ _ e in
     let long = ap (λ (n : Lengths). n .entries) (m .ensures) in
     let many = ap (λ (n : Lengths). n .clauses) (m .ensures) in
@@ -59,8 +59,10 @@ returns c =
     let k = room .before .scratch-over in
     let m = room .before .before .measure in
     let s = room .before .before .before .before .before in
-    let short = fault (s .args .e) (s .args .words .now) (s .args .first .now) (s .args .second .now) (s .args .literals .now) (s .args .weights .now) in
-    let e = fit-short short (sym (room-as-judged _ _ _ _ (m .ensures) (k .ensures) (room .for-clauses .ensures)) ∙ c .before .f .given .1) in
+    let t = tableOf (s .args .words .now) in
+    let short = fault (s .args .first .now) (s .args .second .now) (s .args .literals .now) (s .args .weights .now) in
+    let judged = sym (as-judged short (m .ensures) (k .ensures) (room .for-clauses .ensures)) in
+    let e = fit-short (short (lengthsFor (s .args .e) t) (scratchFor (s .args .e .side) t)) (judged ∙ c .before .f .given .1) in
     rw e (refusal-left _ _ _ _ _)
 
 same-length : tie.Need-same-length
@@ -83,8 +85,10 @@ returns-2 c =
     let k = room .before .scratch-over in
     let m = room .before .before .measure in
     let s = room .before .before .before .before .before in
-    let short = fault (s .args .e) (s .args .words .now) (s .args .first .now) (s .args .second .now) (s .args .literals .now) (s .args .weights .now) in
-    let e = fit-enough short (sym (room-as-judged _ _ _ _ (m .ensures) (k .ensures) (room .for-clauses .ensures)) ∙ told .enum-told .given .1) in
+    let t = tableOf (s .args .words .now) in
+    let short = fault (s .args .first .now) (s .args .second .now) (s .args .literals .now) (s .args .weights .now) in
+    let judged = sym (as-judged short (m .ensures) (k .ensures) (room .for-clauses .ensures)) in
+    let e = fit-enough (short (lengthsFor (s .args .e) t) (scratchFor (s .args .e .side) t)) (judged ∙ told .enum-told .given .1) in
     rw e (list-left (s .args .e) (tableOf (s .args .words .now)) (wrote .write-all .ensures))
 
 pub encode-checked-spec : {M : Type 1} → statement M

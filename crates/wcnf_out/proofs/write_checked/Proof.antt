@@ -1,10 +1,10 @@
 -- The room is judged by the numbers that were measured.
-use Rattle.wcnf_out.proofs.Answers.{room-as-judged, refusal-left}
+use Rattle.wcnf_out.proofs.Answers.{refusal-left}
 use Rattle.wcnf_text.specs.Text.{textOf}
 use Rattle.room.specs.Room.{textFault}
-use Rattle.room.proofs.Fits.{fit-enough, fit-short, text-holds}
+use Rattle.room.proofs.Fits.{as-judged, fit-enough, fit-short, text-holds}
 use Rattle.measure.specs.Measures.{scratchFor}
-use Rattle.clause.specs.declared.Encoding.{Encoding}
+use Rattle.measure.specs.declared.Scratch.{Scratch}
 use Rattle.table.specs.Words.{tableOf}
 use Rattle.refusal.specs.declared.Refusal.{Refusal}
 use lib.ListN.{length}
@@ -17,11 +17,9 @@ use borrow.Author.Needs.{needs}
 use Rattle.wcnf_out.proofs.write_checked.Statement.{statement}
 use Rattle.wcnf_out.proofs.write_checked.Tie as tie
 
--- the judgement of the room over the measured numbers
-abbrev fault : Encoding → List ℕ → (first second : List ℤ) → List ℕ → Option Refusal
-fault e ws first second text =
-    let t = tableOf ws in
-    textFault (scratchFor (e .side) t) (length (textOf e t)) (length first) (length second) (length text)
+-- the room of these buffers, by counts
+abbrev fault : (first second : List ℤ) → List ℕ → Scratch → ℕ → Option Refusal
+fault first second text k n = textFault k n (length first) (length second) (length text)
 
 scratch-over-requires : tie.Need-scratch-over-requires
 scratch-over-requires c κs = search needs
@@ -48,9 +46,10 @@ write-text-requires c κs =
     let long = room .before in
     let scratch = long .before .before in
     let s = scratch .before .before .before in
-    let short = fault (s .args .e) (s .args .words .now) (s .args .first .now) (s .args .second .now) (s .args .text .now) in
-    let e = fit-enough short (sym (room-as-judged _ _ _ (scratch .scratch-over .ensures) (long .text-length .ensures) (room .for-text .ensures))
-    ∙ told .enum-told .given .1) in
+    let t = tableOf (s .args .words .now) in
+    let short = fault (s .args .first .now) (s .args .second .now) (s .args .text .now) in
+    let judged = sym (as-judged short (scratch .scratch-over .ensures) (long .text-length .ensures) (room .for-text .ensures)) in
+    let e = fit-enough (short (scratchFor (s .args .e .side) t) (length (textOf (s .args .e) t))) (judged ∙ told .enum-told .given .1) in
     let holds = text-holds _ _ _ _ _ e in
     (s .pre, long .before .measure .ensures, holds .0, holds .1)
 
@@ -60,9 +59,10 @@ returns c =
     let long = room .before in
     let scratch = long .before .before in
     let s = scratch .before .before .before in
-    let short = fault (s .args .e) (s .args .words .now) (s .args .first .now) (s .args .second .now) (s .args .text .now) in
-    let e = fit-short short (sym (room-as-judged _ _ _ (scratch .scratch-over .ensures) (long .text-length .ensures) (room .for-text .ensures))
-    ∙ c .before .f .given .1) in
+    let t = tableOf (s .args .words .now) in
+    let short = fault (s .args .first .now) (s .args .second .now) (s .args .text .now) in
+    let judged = sym (as-judged short (scratch .scratch-over .ensures) (long .text-length .ensures) (room .for-text .ensures)) in
+    let e = fit-short (short (scratchFor (s .args .e .side) t) (length (textOf (s .args .e) t))) (judged ∙ c .before .f .given .1) in
     rw e (refusal-left _ _ _ _)
 
 same-length : tie.Need-same-length
@@ -82,9 +82,10 @@ returns-2 c =
     let long = room .before in
     let scratch = long .before .before in
     let s = scratch .before .before .before in
-    let short = fault (s .args .e) (s .args .words .now) (s .args .first .now) (s .args .second .now) (s .args .text .now) in
-    let e = fit-enough short (sym (room-as-judged _ _ _ (scratch .scratch-over .ensures) (long .text-length .ensures) (room .for-text .ensures))
-    ∙ told .enum-told .given .1) in
+    let t = tableOf (s .args .words .now) in
+    let short = fault (s .args .first .now) (s .args .second .now) (s .args .text .now) in
+    let judged = sym (as-judged short (scratch .scratch-over .ensures) (long .text-length .ensures) (room .for-text .ensures)) in
+    let e = fit-enough (short (scratchFor (s .args .e .side) t) (length (textOf (s .args .e) t))) (judged ∙ told .enum-told .given .1) in
     rw e (wrote .write-text .ensures)
 
 pub write-checked-spec : {M : Type 1} → statement M
