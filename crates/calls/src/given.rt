@@ -9,6 +9,7 @@ fn read_bytes(n: usize, out: &mut [u8]) -> bool {
     false
 }
 
+// More than the largest room are not asked for, so the bytes can be counted.
 fn read_numbers(n: usize, space: &mut [u8], out: &mut [u32]) -> bool {
     if n <= out.len() {
         if n <= 8192 {

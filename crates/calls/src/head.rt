@@ -2,7 +2,7 @@
 // plan and bytes are given; how long the lent buffers are, of which an entry point is lent some.
 //
 // The entry points by their numbers: 1 check, 2 cost, 3 exact lengths, 4 scratch lengths, 5 decode, 6 make a list, 7 read a sheet, 8 write a sheet,
-// 9 read a sheet with its list, 10 encode, 11 write WCNF. With a number past these none is called, and the answer says so.
+// 9 read a sheet with its list, 10 encode, 11 write WCNF. With another number none is called, and the answer says so.
 pub const ENTRY: usize = 0;
 
 pub const HARD: usize = 1;

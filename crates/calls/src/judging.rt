@@ -55,7 +55,10 @@ fn call(case: &[u32], words: &[u32], of: &[u32]) -> Answer {
     if entry == 3 {
         return exact_lengths(words, hard, side);
     }
-    scratch_lengths(words, hard, side)
+    if entry == 4 {
+        return scratch_lengths(words, hard, side);
+    }
+    answer::not_called()
 }
 
 pub fn show(case: &[u32], words: &[u32], of: &[u32]) {
