@@ -16,7 +16,7 @@ use Rattle.table.specs.Table.{Table, boxes}
 use Rattle.table.specs.Words.{boxCount, tableOf, Accepted}
 use Rattle.table.proofs.Tables.{table-boxes}
 use Rattle.clause.specs.declared.Encoding.{Encoding}
-use Rattle.list_judge.specs.Lists.{valueOf}
+use Rattle.list_boxes.specs.Lists.{valueOf}
 use Rattle.list_judge.specs.Faults.{listFault}
 use Rattle.decoder.specs.Lists.{planOf}
 use Rattle.decoder.specs.Answers.{decodeFault}

@@ -16,9 +16,9 @@ use Rattle.clause.specs.Numbers.{valueBase, stepBase, x}
 use Rattle.clause.specs.Hard.{boxClauses}
 use Rattle.clause.proofs.OneValue.{Holds}
 use Rattle.clause.proofs.Boxes.{box-holds}
-use Rattle.list_judge.specs.Lists.{boxOk, valueOf}
+use Rattle.list_boxes.specs.Lists.{boxOk, valueOf}
 use Rattle.list_judge.specs.Faults.{listFault}
-use Rattle.list_judge.proofs.Counted.{held-is}
+use Rattle.list_boxes.proofs.Counted.{held-is}
 use Rattle.list_judge.proofs.Faults.{BoxesOk, fine-boxes}
 use Rattle.decoder.specs.Lists.{planOf}
 

@@ -10,7 +10,7 @@ use Rattle.clause.specs.declared.Hard.{Hard}
 use Rattle.clause.specs.declared.Hard.the-variants.{Standard, Regular}
 use Rattle.clause.specs.declared.Side.{Side}
 use Rattle.clause.specs.Numbers.{switches}
-use Rattle.list_judge.specs.Lists.{valueOf}
+use Rattle.list_boxes.specs.Lists.{valueOf}
 
 -- the value of each box
 unfoldable pub planOf : Table → List ℕ → List ℕ

@@ -51,7 +51,7 @@ fn put_plan(words: &[u32], list: &[u8], plan: &mut [u32]) -> usize
     let mut at = 0;
     let mut b = 1;
     while b <= n {
-        let v = list_judge::value_of(words, list, b);
+        let v = list_boxes::value_of(words, list, b);
         at = put_value(plan, at, v);
         b += 1;
     }

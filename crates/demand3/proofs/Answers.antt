@@ -27,7 +27,7 @@ use Rattle.clause.specs.Numbers.{x, variables}
 use Rattle.clause.specs.List.{clauses}
 use Rattle.decoder.specs.declared.Decoded.{Decoded}
 use Rattle.decoder.specs.declared.Made.{Made}
-use Rattle.list_judge.specs.Lists.{Bit}
+use Rattle.list_boxes.specs.Lists.{Bit}
 use Rattle.list_judge.specs.Faults.{listFault}
 use Rattle.decoder.specs.Lists.{planOf, made}
 use Rattle.decoder.specs.Answers.{decodeFault, decodedWith, decodedOf, planAfter, makeFault, madeOf, listAfter}

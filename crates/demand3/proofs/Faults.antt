@@ -17,7 +17,7 @@ use Rattle.table.specs.Table.{Table, boxes, Sound}
 use Rattle.clause.specs.declared.Hard.{Hard}
 use Rattle.clause.specs.declared.Side.{Side}
 use Rattle.clause.specs.Numbers.{variables}
-use Rattle.list_judge.specs.Lists.{Bit, boxOk}
+use Rattle.list_boxes.specs.Lists.{Bit, boxOk}
 use Rattle.list_judge.specs.Faults.{entryFault, entriesFault, boxFault, boxesFault, listFault}
 use Rattle.list_judge.proofs.Faults.{BoxesOk, entry-exact, box-exact, boxes-exact}
 use Rattle.demand3.specs.Accepted.{Accepts, LowestEntry, LowestBroken}

@@ -21,7 +21,7 @@ use Rattle.clause.specs.List.{hardPart, softPart, clauses}
 use Rattle.clause.proofs.OneValue.{Holds}
 use Rattle.clause.proofs.Boxes.{Steps, holds-box}
 use Rattle.clause.proofs.Weights.{falsified-weigh, hard-weigh}
-use Rattle.list_judge.specs.Lists.{boxOk}
+use Rattle.list_boxes.specs.Lists.{boxOk}
 use Rattle.list_judge.proofs.Faults.{BoxesOk}
 use Rattle.decoder.specs.Lists.{planOf}
 use Rattle.decoder.proofs.PlanOfList.{Fits, plan-fits}

@@ -18,7 +18,7 @@ use Rattle.clause.specs.declared.Side.{Side}
 use Rattle.clause.specs.Clause.{reads}
 use Rattle.clause.specs.Numbers.{values, steps, thresholds, switches, valueBase, stepBase, x, r, c}
 use Rattle.clause.proofs.Boxes.{Steps}
-use Rattle.list_judge.specs.Lists.{Bit}
+use Rattle.list_boxes.specs.Lists.{Bit}
 use Rattle.decoder.specs.Lists.{planOf, bit, valueRow, stepRow, valueBits, stepBits, made}
 use Rattle.decoder.proofs.PlanOfList.{Fits, plan-long, plan-at}
 use Rattle.maker.proofs.Long.{valueRowOf, stepRowOf, value-long, step-size, step-long, step-rows, values-long, steps-long, made-long}

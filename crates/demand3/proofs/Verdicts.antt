@@ -20,7 +20,7 @@ use Rattle.clause.specs.declared.Picked.the-variants.{Known}
 use Rattle.clause.specs.Clause.{reads, hardTrue}
 use Rattle.clause.specs.Numbers.{variables}
 use Rattle.clause.specs.List.{clauses}
-use Rattle.list_judge.specs.Lists.{Bit, boxOk}
+use Rattle.list_boxes.specs.Lists.{Bit, boxOk}
 use Rattle.list_judge.specs.Faults.{entryFault, boxFault}
 use Rattle.list_judge.proofs.Faults.{BoxesOk, entry-exact, box-exact, list-length}
 use Rattle.decoder.specs.Lists.{planOf}

@@ -12,7 +12,7 @@ use Rattle.clause.specs.declared.Side.{Side}
 use Rattle.clause.specs.Clause.{reads, hardTrue}
 use Rattle.clause.specs.Numbers.{variables}
 use Rattle.clause.specs.List.{clauses}
-use Rattle.list_judge.specs.Lists.{Bit, boxOk}
+use Rattle.list_boxes.specs.Lists.{Bit, boxOk}
 
 -- The list has an entry for each variable, each entry is 0 or 1, and every hard clause of the clause list is true.
 pub record Accepts (h : Hard) (s : Side) (t : Table) (l : List ℕ) : Type 0 where

@@ -144,7 +144,7 @@ fn print_all(words: &[u32], counts: Counts, e: Encoding)
     let mut second = [0i32; 1024];
     let mut clauses = [0i32; 1024];
     let mut text = [0u8; 131072];
-    let head = wcnf::put_header(
+    let head = wcnf_header::put_header(
         &mut text,
         0,
         needed.variables as u64,

@@ -24,9 +24,9 @@ pub fn goes(words: &[u32], seen: Seen, j: u32, i: u32) -> bool
     let at = seen.at;
     let turned = seen.turned;
     if turned {
-        return reader::allows(words, at, i, j);
+        return masks::allows(words, at, i, j);
     }
-    reader::allows(words, at, j, i)
+    masks::allows(words, at, j, i)
 }
 
 // How many values of the other box support value `j`.

@@ -17,7 +17,7 @@ use Rattle.clause.specs.List.{hardPart, pairClauses, softFrom, softPart, clause
 use Rattle.clause.specs.Numbers.{values, thresholds, switches, valueBase, stepBase, c, variables}
 use Rattle.clause.specs.Soft.{softWith, soft}
 use Rattle.list_judge.specs.Faults.{entryFault, boxFault, listFault}
-use Rattle.list_judge.specs.Lists.{boxOk, held}
+use Rattle.list_boxes.specs.Lists.{boxOk, held}
 use Rattle.decoder.specs.Answers.{decodeFault}
 use Rattle.decoder.specs.Lists.{planOf}
 use Rattle.lists.specs.Lists.{Each}

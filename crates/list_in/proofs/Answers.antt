@@ -12,7 +12,8 @@ use Rattle.refusal.specs.declared.Refusal.the-variants.{Line, Length, Room}
 use Rattle.sheet_in.specs.Parsed as sheets
 use Rattle.sheet_in.specs.Parsed.{sheet, parsed}
 use Rattle.list_scan.specs.declared.ListLine.the-variants.{Entries, Bad, More}
-use Rattle.list_scan.specs.ListLines.{entriesOf, lineFound, lineStart}
+use Rattle.list_scan.specs.ListLines.{lineFound, lineStart}
+use Rattle.list_entries.specs.Entries.{entriesOf}
 use Rattle.list_in.specs.declared.ReadList.{ReadList}
 use Rattle.list_in.specs.Listed.{Listed, listed, faulty, onLine, onTop, splitAt}
 use Rattle.list_in.specs.Answers.{wanted, fault, Answered}

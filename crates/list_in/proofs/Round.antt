@@ -28,7 +28,8 @@ use Rattle.sheet_in.specs.Parsed.{Parsed, sheet, parsed}
 use Rattle.sheet_exact.proofs.Round.{written-read, more-read, read-written}
 use Rattle.list_scan.specs.declared.ListLine.{ListLine}
 use Rattle.list_scan.specs.declared.ListLine.the-variants.{Entries, Bad, More}
-use Rattle.list_scan.specs.ListLines.{listText, entriesOf, lineFound, lineStart}
+use Rattle.list_scan.specs.ListLines.{listText, lineFound, lineStart}
+use Rattle.list_entries.specs.Entries.{entriesOf}
 use Rattle.list_scan.proofs.ListLines.{entries-were}
 use Rattle.list_scan.proofs.Written.{Bits, written-found, written-taken, entries-bits, found-written}
 use Rattle.list_in.specs.declared.ReadList.{ReadList}

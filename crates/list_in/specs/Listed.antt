@@ -5,7 +5,8 @@ use mathlib.Core.List.{List}
 use lib.ListN.{length, take, drop}
 use Rattle.list_scan.specs.declared.ListLine.{ListLine}
 use Rattle.list_scan.specs.declared.ListLine.the-variants.{Entries, Bad, More}
-use Rattle.list_scan.specs.ListLines.{entriesOf, lineFound, lineStart}
+use Rattle.list_scan.specs.ListLines.{lineFound, lineStart}
+use Rattle.list_entries.specs.Entries.{entriesOf}
 use Rattle.sheet_in.specs.Parsed as sheets
 use Rattle.sheet_in.specs.Parsed.{Parsed, sheet, parsed}
 

@@ -10,7 +10,7 @@ ghost use lib.ListN.{length, drop, set};
 ghost use lib.Seq.{sets};
 ghost use Rattle.table.specs.Words.{Accepted};
 ghost use Rattle.sheet_in.specs.Parsed.{parsed, sheet};
-ghost use Rattle.list_scan.specs.ListLines.{entriesOf};
+ghost use Rattle.list_entries.specs.Entries.{entriesOf};
 ghost use Rattle.list_in.specs.Listed.{firstFault, onTop, listed};
 ghost use Rattle.list_in.specs.Answers.{wanted, Answered, over};
 
@@ -78,7 +78,7 @@ fn store(
         return ReadList::Refused(Refusal::Room(n));
     }
     put_words(table, words);
-    list_scan::put_list(list, characters);
+    list_entries::put_list(list, characters);
     ReadList::Read(hard, side, n, m)
 }
 

@@ -16,7 +16,7 @@ use Rattle.table.specs.Table.{Table, boxes, In}
 use Rattle.clause.specs.declared.Hard.{Hard}
 use Rattle.clause.specs.declared.Side.{Side}
 use Rattle.clause.specs.Numbers.{variables}
-use Rattle.list_judge.specs.Lists.{Bit, boxOk}
+use Rattle.list_boxes.specs.Lists.{Bit, boxOk}
 use Rattle.list_judge.specs.Faults.{entryFault, entriesFault, boxFault, boxesFault, listFault}
 
 -- ---- 11

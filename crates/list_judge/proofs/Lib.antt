@@ -1,4 +1,3 @@
-pub mod Counted
 pub mod Loops
 pub mod Faults
 pub mod Judged

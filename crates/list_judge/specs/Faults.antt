@@ -11,7 +11,7 @@ use Rattle.table.specs.Table.{Table, boxes}
 use Rattle.clause.specs.declared.Hard.{Hard}
 use Rattle.clause.specs.declared.Side.{Side}
 use Rattle.clause.specs.Numbers.{variables}
-use Rattle.list_judge.specs.Lists.{boxOk}
+use Rattle.list_boxes.specs.Lists.{boxOk}
 
 -- the entry at index i is 0 or 1
 unfoldable pub entryFault : List ℕ → ℕ → Option Refusal

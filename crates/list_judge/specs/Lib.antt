@@ -1,3 +1,1 @@
-pub mod Lists
-pub mod Counted
 pub mod Faults

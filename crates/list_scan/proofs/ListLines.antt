@@ -1,10 +1,10 @@
--- The turns of the loops over a text and its characters, and each way that a list line is judged.
+-- The turns of the loops over a text, and each way that a list line is judged.
 use Prim.Native.Nat.{ℕ, suc, _+_, _-_, _≤_, _<_}
 use native.Mathlib.Numerals.{add-one}
 use native.Mathlib.Omega.{arith}
 use mathlib.Core.Bool.{Bool, true, false, cond, _&&_}
 use mathlib.Core.Path.{_≡_, refl, sym, _∙_}
-use mathlib.Core.List.{List, [], _∷_, _++_, map}
+use mathlib.Core.List.{List, [], _∷_}
 use lib.ListN.{length, getD, drop, drop-of-length-le, length-drop}
 use lib.Seq.{drop-cons, drop-drop}
 use lib.Dec.{eqb, leb}
@@ -13,7 +13,7 @@ use Rattle.lists.proofs.Truth.{test}
 use Rattle.scan.specs.Stands.{begins}
 use Rattle.scan.proofs.Places.{begins-long}
 use Rattle.list_scan.specs.declared.ListLine.the-variants.{Entries, Bad, More}
-use Rattle.list_scan.specs.ListLines.{listKey, bitCount, entryOf, entriesOf, entriesFound, lineFound, lineStart}
+use Rattle.list_scan.specs.ListLines.{listKey, bitCount, entriesFound, lineFound, lineStart}
 
 -- ---- at index i of s
 module _ (s : List ℕ) (i : ℕ) where
@@ -41,19 +41,6 @@ module _ (s : List ℕ) (i : ℕ) where
     pub start-step : (l : ℕ) → 1 < l → lineStart l (drop i s) ≡ suc (lineStart (cond (eqb (getD s i 0) 10) (l - 1) l) (drop (i + 1) s))
     unfolding lineStart
     start-step l k = rw (drop-cons s i 0 h) (simp (lt-leb l 1 k, add-one))
-
-    pub entries-turn : entriesOf (drop i s) ≡ (entryOf (getD s i 0) ∷ []) ++ entriesOf (drop (i + 1) s)
-    unfolding entriesOf map
-    entries-turn = rw (drop-cons s i 0 h, add-one)
-
-pub entries-end : (l : List ℕ) (i : ℕ) → length l ≤ i → entriesOf (drop i l) ≡ []
-unfolding entriesOf map
-entries-end l i h = rw (drop-of-length-le l {i = i} h)
-
-pub length-entries : (l : List ℕ) → length (entriesOf l) ≡ length l
-unfolding entriesOf map
-length-entries [] = refl
-length-entries (c ∷ l) = rw (length-entries l)
 
 pub start-here : (l : ℕ) (s : List ℕ) → l ≤ 1 → lineStart l s ≡ 0
 unfolding lineStart

@@ -13,7 +13,8 @@ use Rattle.lists.proofs.Truth.{test, and-left, and-right}
 use Rattle.scan.specs.Stands.{begins}
 use Rattle.scan.proofs.Places.{begins-append, begins-split}
 use Rattle.list_scan.specs.declared.ListLine.the-variants.{Entries}
-use Rattle.list_scan.specs.ListLines.{listKey, charactersOf, listText, bitCount, entryOf, entriesOf, entriesFound, lineFound}
+use Rattle.list_scan.specs.ListLines.{listKey, charactersOf, listText, bitCount, entriesFound, lineFound}
+use Rattle.list_entries.specs.Entries.{entryOf, entriesOf}
 use Rattle.list_scan.proofs.ListLines.{EntriesWere}
 
 abbrev pub Bits : List ℕ → Type 0

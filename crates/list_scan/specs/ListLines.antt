@@ -27,13 +27,6 @@ unfoldable pub bitCount : List ℕ → ℕ
 bitCount [] = 0
 bitCount (c ∷ r) = let m = suc (bitCount r) in cond (leb 48 c && leb c 49) m 0
 
--- the entry that a character stands for
-abbrev pub entryOf : ℕ → ℕ
-entryOf c = cond (eqb c 49) 1 0
-
-unfoldable pub entriesOf : List ℕ → List ℕ
-entriesOf characters = map entryOf characters
-
 -- characters and a line feed, to the end of the text
 unfoldable pub entriesFound : List ℕ → ListLine
 entriesFound r = let m = bitCount r in cond (begins (10 ∷ []) (drop m r)) (cond (leb (length r) (m + 1)) (Entries m) More) Bad

@@ -1,11 +1,10 @@
-// The list line of a text, found at its place, and its characters stored as entries.
+// The list line of a text, found at its place.
 ghost use mathlib.Core.Path.{_≡_};
 ghost use mathlib.Core.Bool.{cond};
 ghost use Prim.Native.Nat.{_-_, _≤_};
-ghost use lib.ListN.{drop, set};
+ghost use lib.ListN.{drop};
 ghost use lib.Dec.{eqb};
-ghost use lib.Seq.{sets};
-ghost use Rattle.list_scan.specs.ListLines.{lineStart, bitCount, entryOf, entriesOf, lineFound};
+ghost use Rattle.list_scan.specs.ListLines.{lineStart, bitCount, lineFound};
 
 // What stands below the sheet: a list line with so many entries and nothing after it, no list line, or a list line and more.
 pub enum ListLine {
@@ -78,34 +77,4 @@ pub fn list_line(text: &[u8], at: usize) -> ListLine
         }
     }
     ListLine::Bad
-}
-
-// The entry that a character stands for.
-fn entry_of(c: u8) -> u8
-    ensures { λ r. ⌜ r ≡ entryOf c ⌝ }
-{
-    if c == 49 {
-        return 1;
-    }
-    0
-}
-
-fn put_entry(list: &mut [u8], at: usize, entry: u8)
-    ensures { λ _. ⌜ now (list .exit) ≡ set (now (list .entry)) at entry ⌝ }
-{
-    if at < list.len() {
-        list[at] = entry;
-    }
-}
-
-// The entries of all characters, from the start.
-pub fn put_list(list: &mut [u8], characters: &[u8])
-    ensures { λ _. ⌜ now (list .exit) ≡ sets (now (list .entry)) 0 (entriesOf (now (characters .entry))) ⌝ }
-{
-    let mut i = 0;
-    while i < characters.len() {
-        let entry = entry_of(characters[i]);
-        put_entry(list, i, entry);
-        i += 1;
-    }
 }

@@ -24,7 +24,7 @@ use Rattle.hard.specs.declared.Tally.{Tally}
 use Rattle.hard.specs.Tallies.{tallyOf}
 use Rattle.ends.specs.declared.Seen.{Seen}
 use Rattle.ends.specs.Seen.{endOf}
-use Rattle.pairs.proofs.Sight.{Sees}
+use Rattle.sight.proofs.Sight.{Sees}
 use Rattle.totals.proofs.Counting.{soft-any}
 use Rattle.measure.specs.declared.Lengths.{Lengths}
 use Rattle.measure.specs.Measures.{lengthsFor}

@@ -84,9 +84,9 @@ fn candidate(words: &[u32], at: usize, second: bool) -> usize
     requires { ⌜ Accepted (now words) × PairStands (now words) at ⌝ }
     ensures { λ r. ⌜ r ≡ candidateLength (tableOf (now (words .entry))) (whichBy second) (pairAt (now (words .entry)) at) ⌝ }
 {
-    let first = pairs::from_first(words, at);
+    let first = sight::from_first(words, at);
     if second {
-        return pairs::candidate_length(words, pairs::turned(first));
+        return pairs::candidate_length(words, sight::turned(first));
     }
     pairs::candidate_length(words, first)
 }

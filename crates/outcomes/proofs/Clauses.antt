@@ -5,6 +5,7 @@ use denote.Ref.{now}
 use Rattle.outcomes.specs.Decided.{Decided, DecidedBy}
 use Rattle.outcomes.proofs.Law.{same, decided}
 use Rattle.puts.proofs as puts
+use Rattle.fills.proofs as fills
 use Rattle.clause.proofs as clause
 use Rattle.asked.proofs as asked
 use Rattle.numbers.proofs as numbers
@@ -15,6 +16,7 @@ use Rattle.ends.proofs as ends
 use Rattle.support.proofs as support
 use Rattle.direct.proofs as direct
 use Rattle.choice.proofs as choice
+use Rattle.sight.proofs as sight
 use Rattle.pairs.proofs as pairs
 
 pub puts-put-plus-decided : Decided puts.put_plus.ended puts.put_plus.Reads.Post
@@ -29,11 +31,11 @@ puts-put-close-decided = decided λ _ _ _ _ p q. search same
 pub puts-put-part-decided : Decided puts.put_part.ended puts.put_part.Reads.Post
 puts-put-part-decided = decided λ _ _ _ _ p q. search same
 
-pub puts-clear-decided : Decided puts.clear.ended puts.clear.Reads.Post
-puts-clear-decided = decided λ _ _ _ _ p q. search same
+pub fills-clear-decided : Decided fills.clear.ended fills.clear.Reads.Post
+fills-clear-decided = decided λ _ _ _ _ p q. search same
 
-pub puts-put-weights-decided : Decided puts.put_weights.ended puts.put_weights.Reads.Post
-puts-put-weights-decided = decided λ _ _ _ _ p q. search same
+pub fills-put-weights-decided : Decided fills.put_weights.ended fills.put_weights.Reads.Post
+fills-put-weights-decided = decided λ _ _ _ _ p q. search same
 
 pub clause-pick-decided : Decided clause.pick.ended clause.pick.Reads.Post
 clause-pick-decided = decided λ _ _ _ _ p q. search same
@@ -99,11 +101,11 @@ choice-prefers-second-decided = decided λ _ _ _ _ p q. search same
 pub choice-better-decided : DecidedBy choice.better.ended (λ κs. List ℤ) (λ κs r. now r) choice.better.Reads.Post
 choice-better-decided = decided λ _ _ _ _ p q. search same
 
-pub pairs-from-first-decided : Decided pairs.from_first.ended pairs.from_first.Reads.Post
-pairs-from-first-decided = decided λ _ _ _ _ p q. search same
+pub sight-from-first-decided : Decided sight.from_first.ended sight.from_first.Reads.Post
+sight-from-first-decided = decided λ _ _ _ _ p q. search same
 
-pub pairs-turned-decided : Decided pairs.turned.ended pairs.turned.Reads.Post
-pairs-turned-decided = decided λ _ _ _ _ p q. search same
+pub sight-turned-decided : Decided sight.turned.ended sight.turned.Reads.Post
+sight-turned-decided = decided λ _ _ _ _ p q. search same
 
 pub pairs-candidate-length-decided : Decided pairs.candidate_length.ended pairs.candidate_length.Reads.Post
 pairs-candidate-length-decided = decided λ _ _ _ _ p q. search same

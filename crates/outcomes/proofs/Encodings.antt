@@ -3,6 +3,7 @@ use Rattle.outcomes.specs.Decided.{Decided}
 use Rattle.outcomes.proofs.Law.{same, decided}
 use Rattle.totals.proofs as totals
 use Rattle.measure.proofs as measure
+use Rattle.both_ends.proofs as both-ends
 use Rattle.soft.proofs as soft
 use Rattle.parts.proofs as parts
 use Rattle.weights.proofs as weights
@@ -37,6 +38,12 @@ measure-scratch-over-decided = decided λ _ _ _ _ p q. search same
 
 pub measure-scratch-lengths-decided : Decided measure.scratch_lengths.ended measure.scratch_lengths.Reads.Post
 measure-scratch-lengths-decided = decided λ _ _ _ _ p q. search same
+
+pub both-ends-put-both-decided : Decided both-ends.put_both.ended both-ends.put_both.Reads.Post
+both-ends-put-both-decided = decided λ _ _ _ _ p q. search same
+
+pub both-ends-put-chosen-decided : Decided both-ends.put_chosen.ended both-ends.put_chosen.Reads.Post
+both-ends-put-chosen-decided = decided λ _ _ _ _ p q. search same
 
 pub soft-put-pair-decided : Decided soft.put_pair.ended soft.put_pair.Reads.Post
 soft-put-pair-decided = decided λ _ _ _ _ p q. search same

@@ -5,6 +5,7 @@ use Rattle.lists.proofs as lists
 use Rattle.refusal.proofs as refusal
 use Rattle.table.proofs as table
 use Rattle.reader.proofs as reader
+use Rattle.masks.proofs as masks
 use Rattle.plan.proofs as plan
 
 pub lists-wide-decided : Decided lists.wide.ended lists.wide.Reads.Post
@@ -28,8 +29,8 @@ table-check-decided = decided λ _ _ _ _ p q. search same
 pub reader-pair-at-decided : Decided reader.pair_at.ended reader.pair_at.Reads.Post
 reader-pair-at-decided = decided λ _ _ _ _ p q. search same
 
-pub reader-allows-decided : Decided reader.allows.ended reader.allows.Reads.Post
-reader-allows-decided = decided λ _ _ _ _ p q. search same
+pub masks-allows-decided : Decided masks.allows.ended masks.allows.Reads.Post
+masks-allows-decided = decided λ _ _ _ _ p q. search same
 
 pub plan-judge-decided : Decided plan.judge.ended plan.judge.Reads.Post
 plan-judge-decided = decided λ _ _ _ _ p q. search same

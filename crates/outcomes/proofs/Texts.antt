@@ -5,8 +5,10 @@ use Rattle.text_out.proofs as text-out
 use Rattle.scan.proofs as scan
 use Rattle.row_scan.proofs as row-scan
 use Rattle.answer_out.proofs as answer-out
+use Rattle.list_entries.proofs as list-entries
 use Rattle.list_scan.proofs as list-scan
 use Rattle.wcnf.proofs as wcnf
+use Rattle.wcnf_header.proofs as wcnf-header
 use Rattle.wcnf_parts.proofs as wcnf-parts
 use Rattle.wcnf_text.proofs as wcnf-text
 use Rattle.wcnf_out.proofs as wcnf-out
@@ -50,11 +52,11 @@ list-scan-line-start-decided = decided λ _ _ _ _ p q. search same
 pub list-scan-list-line-decided : Decided list-scan.list_line.ended list-scan.list_line.Reads.Post
 list-scan-list-line-decided = decided λ _ _ _ _ p q. search same
 
-pub list-scan-put-list-decided : Decided list-scan.put_list.ended list-scan.put_list.Reads.Post
-list-scan-put-list-decided = decided λ _ _ _ _ p q. search same
+pub list-entries-put-list-decided : Decided list-entries.put_list.ended list-entries.put_list.Reads.Post
+list-entries-put-list-decided = decided λ _ _ _ _ p q. search same
 
-pub wcnf-put-header-decided : Decided wcnf.put_header.ended wcnf.put_header.Reads.Post
-wcnf-put-header-decided = decided λ _ _ _ _ p q. search same
+pub wcnf-header-put-header-decided : Decided wcnf-header.put_header.ended wcnf-header.put_header.Reads.Post
+wcnf-header-put-header-decided = decided λ _ _ _ _ p q. search same
 
 pub wcnf-put-clauses-decided : Decided wcnf.put_clauses.ended wcnf.put_clauses.Reads.Post
 wcnf-put-clauses-decided = decided λ _ _ _ _ p q. search same

@@ -1,7 +1,7 @@
 -- What a pair's clauses come to, from the tallies of its ends.
 use mathlib.Core.Path.{_≡_, refl, sym, ap, ap₂, _∙_}
 use mathlib.Core.Bool.{Bool, true, false, cond}
-use mathlib.Core.List.{List, [], _∷_, _++_}
+use mathlib.Core.List.{[], _∷_, _++_}
 use Prim.Native.Nat.{ℕ, _+_, _*_, _≤_}
 use native.Mathlib.Omega.{arith}
 use lib.ListN.{length, length-append}
@@ -15,9 +15,6 @@ use Rattle.clause.proofs.Lengths.{literals-append, entries-length, direct-liter
 use Rattle.hard.specs.declared.Tally.{Tally}
 use Rattle.hard.specs.Tallies.{tallyOf}
 use Rattle.hard.proofs.Tallies.{tally}
-use Rattle.ends.specs.declared.Seen.{Seen}
-use Rattle.ends.specs.Seen.{endOf, SeenWell}
-use Rattle.ends.proofs.Ends.{mine-few, theirs-few}
 use Rattle.choice.specs.declared.EndTally.{EndTally}
 use Rattle.choice.specs.Tally.{endTally, secondBy}
 use Rattle.choice.proofs.Choice.{literals-picks, score-picks}
@@ -36,9 +33,6 @@ end-clauses e = refl
 pub end-literals : (e : End) → endTally e .literals ≡ literalsIn (supportClauses e [])
 unfolding endTally literalsFrom
 end-literals e = refl
-
-pub seen-small : {ws : List ℕ} {seen : Seen} → SeenWell ws seen → Small (endOf ws seen)
-seen-small W = record { mine = mine-few W .1; theirs = theirs-few W .1 }
 
 -- an end's clauses with their literals are few
 pub end-few : (e : End) → Small e → endTally e .clauses + endTally e .literals ≤ 1024

@@ -1,4 +1,4 @@
-// The two ends of a pair of an accepted table, with the numbers of their variables, and what the pair's clauses come to on each side.
+// What the clauses of a pair of an accepted table come to on each side.
 use choice::EndTally;
 use clause::Side;
 use ends::Seen;
@@ -13,37 +13,7 @@ ghost use Rattle.clause.specs.Clause.{entriesOf};
 ghost use Rattle.clause.specs.Ends.{one, two, end, directClauses, supportClauses};
 ghost use Rattle.hard.specs.Tallies.{tallyOf};
 ghost use Rattle.ends.specs.Seen.{endOf, SeenWell};
-ghost use Rattle.pairs.specs.Pairs.{seenOf, turnedOf, bareTally, bothTally, chosenTally, pairTally};
-
-// As the first box sees the pair at the cursor.
-pub fn from_first(words: &[u32], at: usize) -> Seen
-    requires { ⌜ Accepted (now words) × PairStands (now words) at ⌝ }
-    ensures { λ r. ⌜ r ≡ seenOf (now (words .entry)) at one ⌝ }
-{
-    let pair = reader::pair_at(words, at);
-    Seen {
-        at,
-        own: numbers::value_base(words, pair.first),
-        mine: table::size(words, pair.first),
-        other: numbers::value_base(words, pair.second),
-        theirs: table::size(words, pair.second),
-        turned: false,
-    }
-}
-
-// The same pair as the other box sees it.
-pub fn turned(seen: Seen) -> Seen
-    ensures { λ r. ⌜ r ≡ turnedOf seen ⌝ }
-{
-    Seen {
-        at: seen.at,
-        own: seen.other,
-        mine: seen.theirs,
-        other: seen.own,
-        theirs: seen.mine,
-        turned: true,
-    }
-}
+ghost use Rattle.pairs.specs.Pairs.{bareTally, bothTally, chosenTally, pairTally};
 
 // An end's tally without its score.
 fn bare(tally: EndTally) -> Tally
@@ -111,8 +81,8 @@ pub fn pair_tally(words: &[u32], side: Side, at: usize) -> Tally
         ≡ pairTally side (end (tableOf (now (words .entry))) (pairAt (now (words .entry)) at) one)
         (end (tableOf (now (words .entry))) (pairAt (now (words .entry)) at) two) ⌝ }
 {
-    let first = from_first(words, at);
-    let second = turned(first);
+    let first = sight::from_first(words, at);
+    let second = sight::turned(first);
     match side {
         Side::Direct => direct_tally(words, first),
         Side::Support => both_tally(words, first, second),

@@ -76,7 +76,7 @@ fn charged(words: &[u32], at: usize, pair: PairHead, plan: &[u32]) -> u64
 {
     let a = value_of(plan, pair.first);
     let b = value_of(plan, pair.second);
-    if reader::allows(words, at, a, b) {
+    if masks::allows(words, at, a, b) {
         return 0;
     }
     let weight = pair.weight;

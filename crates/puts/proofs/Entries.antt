@@ -1,14 +1,12 @@
--- A variable number as a signed literal: that it fits, and that passing it on changes nothing. Zeros, and runs of one weight.
-use mathlib.Core.Path.{_≡_, refl, ap, _∙_}
-use mathlib.Core.List.{List, [], _∷_, _++_}
-use Prim.Native.Nat.{ℕ, zero, suc, _+_, _-_, _<_, _^_}
+-- A variable number as a signed literal: that it fits, and that passing it on changes nothing.
+use mathlib.Core.Path.{_≡_, ap, _∙_}
+use Prim.Native.Nat.{ℕ, zero, suc, _<_, _^_}
 use native.Mathlib.Omega.{arith}
-use lib.ListN.{length, set, take, drop, replicate}
 use lib.IntN.{ℤ, pos, negℤ, _-ℤ_, +ℤ-idl}
 use mir.Val.{SFits, toZ, ofZ}
 use mir.ValLaws.{toZ-pos, toZ-ofZ}
 use mir.Syntax.{w32}
-use Rattle.puts.specs.Signed.{neg, zeros}
+use Rattle.puts.specs.Signed.{neg}
 
 pub neg-fits : (v : ℕ) → v < 2 ^ 31 → SFits w32 (neg v)
 neg-fits zero h = record { sfits = omega arith }
@@ -23,16 +21,3 @@ negated v h = rw (toZ-pos w32 v h) (+ℤ-idl (negℤ (pos v)))
 -- a value that a function gave and another was handed
 pub passed : {r : ℤ} (z : ℤ) → SFits w32 z → r ≡ z → toZ w32 (ofZ w32 r) ≡ z
 passed z f e = ap (λ (y : ℤ). toZ w32 (ofZ w32 y)) e ∙ toZ-ofZ w32 z f
-
--- ---- zeros
-
--- a turn of the loop that clears: i entries are done
-pub clear-step : (l : List ℤ) (i : ℕ) → i < length l → set (zeros (take i l) ++ drop i l) i (pos 0) ≡ zeros (take (suc i) l) ++ drop (suc i) l
-clear-step [] i h = absurd (omega arith)
-clear-step (a ∷ l) zero h = refl
-clear-step (a ∷ l) (suc i) h = ap (λ (r : List ℤ). pos 0 ∷ r) (clear-step l i (omega arith))
-
--- ---- runs
-
-pub run-step : (w n i : ℕ) → i < n → replicate (n - i) w ≡ (w ∷ []) ++ replicate (n - (i + 1)) w
-run-step w n i h = let e : n - i ≡ suc (n - (i + 1)) = omega arith in rw e

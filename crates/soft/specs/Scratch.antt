@@ -1,24 +1,14 @@
--- The clauses of the end that is taken, and what a pair asks of the two scratch slices and leaves in them.
+-- What a pair asks of the two scratch slices and leaves in them.
 use Prim.Native.Nat.{ℕ}
-use mathlib.Core.Bool.{Bool, true, false}
 use mathlib.Core.List.{List, []}
 use lib.Seq.{sets}
 use lib.IntN.{ℤ}
 use Rattle.table.specs.Table.{Table, Pair}
 use Rattle.clause.specs.declared.Side.{Side}
 use Rattle.clause.specs.declared.Side.the-variants.{Direct, Support, First, Literals, Score}
-use Rattle.clause.specs.Clause.{Clause, entriesOf}
-use Rattle.clause.specs.Ends.{End, Which, end, supportClauses}
-use Rattle.clause.specs.Soft.{softWith}
+use Rattle.clause.specs.Clause.{entriesOf}
+use Rattle.clause.specs.Ends.{Which, end, supportClauses}
 use Rattle.clause.specs.Lengths.{candidateLength}
-
--- the two sides that choose: by score, and by literals
-abbrev pub choosing : Bool → Side
-choosing true = Score
-choosing false = Literals
-
-abbrev pub chosen : Bool → End → End → List Clause
-chosen s a b = softWith (choosing s) a b [] []
 
 -- what the scratch slice of an end must hold for this pair
 abbrev pub pairScratch : Side → Which → Table → Pair → ℕ

@@ -1,4 +1,4 @@
--- How long the header and an entry's text are and can be, and the text of entries one by one.
+-- How long an entry's text is and can be, and the text of entries one by one.
 use mathlib.Core.Path.{_≡_, ap}
 use mathlib.Core.List.{List, [], _∷_, _++_}
 use Prim.Native.Nat.{ℕ, zero, suc, _+_, _^_, _≤_, _<_}
@@ -11,29 +11,16 @@ use mir.Syntax.{w32}
 use mir.Val.{SFits}
 use Rattle.lists.specs.Decimal.{digits, signed}
 use Rattle.lists.proofs.Decimal.{length-digits}
-use Rattle.wcnf.specs.Wcnf.{ended, headerText}
 use Rattle.wcnf.specs.Entries.{opening, ending, entryText, entriesFrom}
-
-pub length-ended : (n b : ℕ) → length (ended n b) ≡ length (digits n) + 1
-unfolding ended
-length-ended n b = simp length-append (omega arith)
-
-pub length-header : (v c t : ℕ) → length (headerText v c t) ≡ 7 + (length (ended v 32) + (length (ended c 32) + length (ended t 10)))
-unfolding headerText
-length-header v c t = simp length-append (omega arith)
 
 pub length-entry : (w : ℕ) (past v : ℤ) → length (entryText w past v) ≡ length (opening w past) + (1 + length (ending v))
 length-entry w past v = simp length-append (omega arith)
 
--- ---- what none of them exceeds
+-- ---- what it does not exceed
 
 -- a number of 64 bits has at most 20 digits
-digits-few : (n : ℕ) → n < 2 ^ 64 → length (digits n) ≤ 20
+pub digits-few : (n : ℕ) → n < 2 ^ 64 → length (digits n) ≤ 20
 digits-few n h = length-digits 19 n (omega arith)
-
-pub header-short : (v c t : ℕ) → v < 2 ^ 64 → c < 2 ^ 64 → t < 2 ^ 64 → length (headerText v c t) ≤ 128
-header-short v c t a b d =
-    omega (arith, length-header v c t, length-ended v 32, length-ended c 32, length-ended t 10, digits-few v a, digits-few c b, digits-few t d)
 
 opening-short : (w : ℕ) → w < 2 ^ 64 → (past : ℤ) → length (opening w past) ≤ 20
 opening-short w h (pos zero) = digits-few w h

@@ -17,9 +17,9 @@ use Rattle.clause.specs.Ends.{one, two}
 use Rattle.clause.specs.Hard.{boxClauses}
 use Rattle.clause.specs.Soft.{soft}
 use Rattle.clause.proofs.Lengths.{soft-room}
-use Rattle.pairs.proofs.Sight.{pair-small}
+use Rattle.sight.proofs.Sight.{pair-small}
 use Rattle.totals.proofs.Counting.{box-few}
-use Rattle.soft.proofs.Parts.{begins}
+use Rattle.both_ends.proofs.Ends.{begins}
 use Rattle.wcnf.specs.Wcnf.{linesOf}
 use Rattle.wcnf.specs.Entries.{entriesText}
 use Rattle.wcnf.proofs.Named.{AllNamed}

@@ -14,7 +14,7 @@ use Rattle.clause.specs.Ends.{Which, end}
 use Rattle.clause.specs.Soft.{softWith}
 use Rattle.clause.specs.Lengths.{longest, candidateLength, scratchLength}
 use Rattle.clause.proofs.Lengths.{soft-room}
-use Rattle.pairs.proofs.Sight.{pair-small}
+use Rattle.sight.proofs.Sight.{pair-small}
 use Rattle.soft.specs.Scratch.{pairScratch}
 
 max-most : (a b k : ℕ) → a ≤ k → b ≤ k → max a b ≤ k

@@ -12,7 +12,7 @@ use Rattle.clause.specs.Clause.{weights}
 use Rattle.clause.specs.List.{pairClauses, softFrom, softPart}
 use Rattle.clause.proofs.Turns.{softAhead, soft-weights, weights-part}
 use Rattle.hard.specs.declared.Tally.{Tally}
-use Rattle.pairs.proofs.Sight.{pair-tally-is}
+use Rattle.pairs.proofs.Counted.{pair-tally-is}
 use Rattle.totals.proofs.Counting.{pair-any}
 use Rattle.weights.specs.Weights.{pairCount}
 

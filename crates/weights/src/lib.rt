@@ -22,7 +22,7 @@ pub fn weigh_hard(words: &[u32], n: u32, part: Hard, out: &mut [u64], from: usiz
     let mut b = 1;
     while b <= n {
         let tally = hard::box_tally(part, table::size(words, b));
-        at = puts::put_weights(out, at, 0, tally.clauses);
+        at = fills::put_weights(out, at, 0, tally.clauses);
         b += 1;
     }
     at
@@ -36,7 +36,7 @@ fn weigh_pair(words: &[u32], side: Side, at: usize, out: &mut [u64], cursor: usi
 {
     let tally = pairs::pair_tally(words, side, at);
     let pair = reader::pair_at(words, at);
-    puts::put_weights(
+    fills::put_weights(
         out,
         cursor,
         totals::weight_as_sum(pair.weight),

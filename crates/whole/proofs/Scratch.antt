@@ -8,7 +8,7 @@ use Rattle.table.specs.Table.{Table, Pair}
 use Rattle.clause.specs.declared.Side.{Side}
 use Rattle.clause.specs.declared.Side.the-variants.{Direct, Support, First, Literals, Score}
 use Rattle.clause.specs.Ends.{Which}
-use Rattle.puts.specs.Signed.{zeros}
+use Rattle.fills.specs.Zeros.{zeros}
 use Rattle.parts.specs.Parts.{scratchThrough}
 use Rattle.parts.proofs.Scratch.{through-long}
 use Rattle.whole.specs.Scratch.{scratchLeft}

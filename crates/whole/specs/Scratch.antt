@@ -3,7 +3,7 @@ use mathlib.Core.List.{List}
 use lib.IntN.{ℤ}
 use Rattle.clause.specs.declared.Side.{Side}
 use Rattle.clause.specs.declared.Side.the-variants.{Direct, Support, First, Literals, Score}
-use Rattle.puts.specs.Signed.{zeros}
+use Rattle.fills.specs.Zeros.{zeros}
 
 -- zero whole on the sides that choose, untouched on the others
 abbrev pub scratchLeft : Side → List ℤ → List ℤ

@@ -60,10 +60,10 @@ pub fn tidy(side: Side, scratch: &mut [i32])
         Side::Support => {}
         Side::First => {}
         Side::Literals => {
-            puts::clear(scratch);
+            fills::clear(scratch);
         }
         Side::Score => {
-            puts::clear(scratch);
+            fills::clear(scratch);
         }
     }
 }

@@ -1,7 +1,7 @@
 -- The values of the boxes ahead are still owed.
 use Rattle.decoder.proofs.Judged.{plan-whole}
 use Rattle.decoder.specs.Lists.{planOf}
-use Rattle.list_judge.specs.Lists.{valueOf}
+use Rattle.list_boxes.specs.Lists.{valueOf}
 use Rattle.table.proofs.Words.{accepted-parts}
 use Rattle.table.specs.Words.{tableOf}
 use Rattle.lists.proofs.Runs.{count-turn, count-end}

@@ -1,7 +1,7 @@
 -- Each exit is one way that a list is judged; then both are stored.
 use Rattle.list_in.proofs.Answers.{other-length, list-short, table-short, both-fit}
-use Rattle.list_scan.specs.ListLines.{entriesOf}
-use Rattle.list_scan.proofs.ListLines.{length-entries}
+use Rattle.list_entries.specs.Entries.{entriesOf}
+use Rattle.list_entries.proofs.Entries.{length-entries}
 use mathlib.Core.Path.{refl}
 use native.Mathlib.Omega.{arith}
 use borrow.Author.Needs.{needs}

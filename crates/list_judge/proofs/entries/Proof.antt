@@ -22,19 +22,19 @@ abbrev μ-loop : tie.MeasureT-loop
 loop-holds : tie.Need-loop-holds Inv-loop μ-loop
 loop-holds c = (omega arith, rw sub-zero)
 
-entry-requires : tie.Need-entry-requires Inv-loop μ-loop
-entry-requires c κs = search needs
+shared-slice-read-entry : tie.Need-shared-slice-read-entry Inv-loop μ-loop
+shared-slice-read-entry c = search needs
 
 returns : tie.Need-returns Inv-loop μ-loop
 returns c =
     let t = c .before .before in
     let l = t .before in
-    let list = l .before .before .args .list .now in
+    let list = l .before .args .list .now in
     let i = l .loop .i in
     rw (
       ← l .loop .inv .1,
       first-found (entryFault list) (λ k. k + 1) (length list) i i (t .loop-test .taken)
-          (entry-wrong list i (omega (arith, c .before .entry .ensures, c .if1 .taken))),
+          (entry-wrong list i (omega (arith, c .if1 .taken))),
     )
 
 add-i : tie.Need-add-i Inv-loop μ-loop
@@ -47,15 +47,15 @@ loop-again : tie.Need-loop-again Inv-loop μ-loop
 loop-again c =
     let t = c .before .before in
     let l = t .before in
-    let list = l .before .before .args .list .now in
+    let list = l .before .args .list .now in
     let i = l .loop .i in
-    let e = entry-exact list i .1 (omega (arith, c .before .entry .ensures, c .if1 .left)) in
+    let e = entry-exact list i .1 (omega (arith, c .if1 .left)) in
     (omega arith, sym (first-next (entryFault list) (λ k. k + 1) (length list) i i (t .loop-test .taken) e) ∙ l .loop .inv .1)
 
 returns-2 : tie.Need-returns-2 Inv-loop μ-loop
 returns-2 c =
     let l = c .before in
-    let list = l .before .before .args .list .now in
+    let list = l .before .args .list .now in
     rw (← l .loop .inv .1, first-end (entryFault list) (λ k. k + 1) (length list) (l .loop .i) (l .loop .i) (omega arith))
 
 pub entries-spec : {M : Type 1} → statement M
@@ -65,7 +65,7 @@ entries-spec =
     Inv-loop
     μ-loop
     loop-holds
-    entry-requires
+    shared-slice-read-entry
     returns
     add-i
     loop-less

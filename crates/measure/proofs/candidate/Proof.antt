@@ -1,7 +1,7 @@
 -- The list of the end that is asked for.
 use Rattle.measure.proofs.Measuring.{candidate-is}
-use Rattle.pairs.proofs.Sight.{Sees, sees}
-use Rattle.pairs.specs.Pairs.{turnedOf}
+use Rattle.sight.proofs.Sight.{Sees, sees}
+use Rattle.sight.specs.Sight.{turnedOf}
 use Rattle.clause.specs.Ends.{one, two}
 use mathlib.Core.Path.{ap, _∙_}
 use borrow.Author.Needs.{needs}

@@ -1,5 +1,6 @@
 -- The two tallies added, and a literal more in each clause.
-use Rattle.pairs.proofs.Sums.{both-tally, end-few, seen-small}
+use Rattle.pairs.proofs.Sums.{both-tally, end-few}
+use Rattle.sight.proofs.Sight.{seen-small}
 use Rattle.choice.specs.declared.EndTally.{EndTally}
 use mathlib.Core.Path.{ap}
 use native.Mathlib.Omega.{arith}

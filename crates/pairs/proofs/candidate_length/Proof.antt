@@ -1,5 +1,6 @@
 -- An entry for each literal and one for each clause.
-use Rattle.pairs.proofs.Sums.{end-clauses, end-literals, end-few, seen-small}
+use Rattle.pairs.proofs.Sums.{end-clauses, end-literals, end-few}
+use Rattle.sight.proofs.Sight.{seen-small}
 use Rattle.ends.specs.Seen.{endOf}
 use Rattle.choice.specs.declared.EndTally.{EndTally}
 use Rattle.clause.proofs.Lengths.{entries-length}

@@ -1,5 +1,6 @@
 -- Two literals a clause.
-use Rattle.pairs.proofs.Sums.{direct-tally, direct-few, seen-small}
+use Rattle.pairs.proofs.Sums.{direct-tally, direct-few}
+use Rattle.sight.proofs.Sight.{seen-small}
 use Rattle.ends.specs.Seen.{endOf}
 use native.Mathlib.Omega.{arith}
 use borrow.Author.Needs.{needs}

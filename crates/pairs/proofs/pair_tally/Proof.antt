@@ -1,7 +1,8 @@
 -- By the side, from the ends that were seen.
 use Rattle.pairs.proofs.Sums.{end-tally, pair-direct, pair-first, pair-literals, pair-score}
-use Rattle.pairs.proofs.Sight.{Sees, sees}
-use Rattle.pairs.specs.Pairs.{turnedOf, bareTally, bothTally, chosenTally}
+use Rattle.sight.specs.Sight.{turnedOf}
+use Rattle.sight.proofs.Sight.{Sees, sees}
+use Rattle.pairs.specs.Pairs.{bareTally, bothTally, chosenTally}
 use Rattle.hard.specs.Tallies.{tallyOf}
 use Rattle.clause.specs.Ends.{End, one, two, directClauses, supportClauses}
 use mathlib.Core.List.{[]}

@@ -1,7 +1,7 @@
 -- By the side, from the ends that were seen.
 use Rattle.soft.proofs.Parts.{direct-is, support-is, first-is, chosen-is, room-as, wrote-as, scratch-holds, scratch-left}
-use Rattle.pairs.specs.Pairs.{turnedOf}
-use Rattle.pairs.proofs.Sight.{Sees, sees}
+use Rattle.sight.specs.Sight.{turnedOf}
+use Rattle.sight.proofs.Sight.{Sees, sees}
 use Rattle.clause.specs.Ends.{one, two}
 use mathlib.Core.Bool.{true, false}
 use mathlib.Core.Path.{refl, ap, _∙_}

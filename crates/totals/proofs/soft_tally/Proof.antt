@@ -1,7 +1,7 @@
 -- What is counted and what the pairs ahead come to make up the soft part.
 use Rattle.totals.proofs.Starts.{soft-start}
 use Rattle.totals.proofs.Counting.{Makes, makes-all, makes-turn, makes-none, few-part}
-use Rattle.pairs.proofs.Sight.{pair-tally-is, pair-room}
+use Rattle.pairs.proofs.Counted.{pair-tally-is, pair-room}
 use Rattle.clause.proofs.Turns.{softAhead, bare-turn, soft-end}
 use Rattle.clause.specs.List.{softPart}
 use Rattle.clause.specs.Clause.{bare}
