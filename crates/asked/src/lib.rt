@@ -20,7 +20,7 @@ pub fn ask(words: &[u32], hard: u32, side: u32) -> Asked
 {
     match clause::pick(hard, side) {
         Picked::Unknown => Asked::Refused(Refusal::Choice),
-        Picked::Known(e) => match table::check(words) {
+        Picked::Known(e) => match table_check::check(words) {
             Checked::Refused(f) => Asked::Refused(f),
             Checked::Accepted(counts) => Asked::Ready(e, counts),
         },

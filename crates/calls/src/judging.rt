@@ -8,7 +8,7 @@ use plan::Costed;
 use table::Checked;
 
 fn check(words: &[u32]) -> Answer {
-    match table::check(words) {
+    match table_check::check(words) {
         Checked::Refused(f) => answer::refused(f),
         Checked::Accepted(c) => answer::success(c.boxes as u64, c.pairs as u64, 0, 0, 0),
     }

@@ -37,7 +37,7 @@ fn print_decoded(words: &[u32], n: usize, hard: u32, side: u32, list: &[u8])
 }
 
 fn print_words(words: &[u32], hard: u32, side: u32, list: &[u8]) {
-    match table::check(words) {
+    match table_check::check(words) {
         Checked::Refused(f) => prints::refuse(f),
         Checked::Accepted(counts) => {
             let n = counts.boxes;

@@ -30,7 +30,7 @@ pub extern "C" fn wickcollar_check(words: &[u32], boxes: &mut usize, pairs: &mut
     ensures { λ r. ⌜ Told (checkSays (now (words .entry))) r
         (now (boxes .entry) ∷ now (pairs .entry) ∷ []) (now (boxes .exit) ∷ now (pairs .exit) ∷ []) ⌝ }
 {
-    match table::check(words) {
+    match table_check::check(words) {
         Checked::Refused(f) => codes::code(f),
         Checked::Accepted(counts) => {
             *boxes = counts.boxes;

@@ -4,6 +4,7 @@ use Rattle.outcomes.proofs.Law.{same, decided}
 use Rattle.lists.proofs as lists
 use Rattle.refusal.proofs as refusal
 use Rattle.table.proofs as table
+use Rattle.table_check.proofs as table-check
 use Rattle.reader.proofs as reader
 use Rattle.masks.proofs as masks
 use Rattle.plan.proofs as plan
@@ -23,8 +24,8 @@ refusal-place-decided = decided λ _ _ _ _ p q. search same
 pub table-size-decided : Decided table.size.ended table.size.Reads.Post
 table-size-decided = decided λ _ _ _ _ p q. search same
 
-pub table-check-decided : Decided table.check.ended table.check.Reads.Post
-table-check-decided = decided λ _ _ _ _ p q. search same
+pub table-check-check-decided : Decided table-check.check.ended table-check.check.Reads.Post
+table-check-check-decided = decided λ _ _ _ _ p q. search same
 
 pub reader-pair-at-decided : Decided reader.pair_at.ended reader.pair_at.Reads.Post
 reader-pair-at-decided = decided λ _ _ _ _ p q. search same

@@ -117,7 +117,7 @@ fn counted(words: &[u32], counts: Counts, plan: &[u32]) -> Costed
 pub fn cost(words: &[u32], plan: &[u32]) -> Costed
     ensures { λ r. ⌜ r ≡ costedOf (judged (now (words .entry))) (now (plan .entry)) ⌝ }
 {
-    match table::check(words) {
+    match table_check::check(words) {
         Checked::Refused(f) => Costed::Refused(f),
         Checked::Accepted(counts) => counted(words, counts, plan),
     }

@@ -1,4 +1,4 @@
--- An answer, taken apart: which case it is says whether there was a fault, and which.
+-- The check's answer, taken apart, for its callers: which case it is says whether there was a fault, and which.
 use Prim.Native.Nat.{ℕ}
 use mathlib.Core.Path.{_≡_, refl, ap}
 use native.Mathlib.Omega.{arith}
@@ -6,31 +6,11 @@ use mathlib.Core.Option.{Option, none, some}
 use mathlib.Core.List.{List}
 use lib.ListN.{length}
 use Rattle.refusal.specs.declared.Refusal.{Refusal}
-use Rattle.table.specs.declared.Got.the-variants.{Value, Wrong}
-use Rattle.table.specs.declared.Step.the-variants.{Next, Stop}
 use Rattle.table.specs.declared.Counts.{Counts}
 use Rattle.table.specs.declared.Checked.{Checked}
 use Rattle.table.specs.Table.{boxes}
 use Rattle.table.specs.Words.{Outcome, refused, accepted, settled, firstFault, tableOf, judged}
-use Rattle.table.specs.Answers.{gotOf, stepOf, checkedOf, Counted}
-
-pub got-value : (o : Option Refusal) (x : ℕ) {v : ℕ} → gotOf o x ≡ Value v → (o ≡ none) × (x ≡ v)
-got-value none x e = (refl, cc)
-got-value (some f) x e = (cc, cc)
-
-pub got-wrong : (o : Option Refusal) (x : ℕ) {f : Refusal} → gotOf o x ≡ Wrong f → o ≡ some f
-got-wrong none x e = cc
-got-wrong (some g) x e = cc
-
-pub step-next : (o : Option Refusal) (x : ℕ) {v : ℕ} → stepOf o x ≡ Next v → (o ≡ none) × (x ≡ v)
-step-next none x e = (refl, cc)
-step-next (some f) x e = (cc, cc)
-
-pub step-stop : (o : Option Refusal) (x : ℕ) {f : Refusal} → stepOf o x ≡ Stop f → o ≡ some f
-step-stop none x e = cc
-step-stop (some g) x e = cc
-
--- ---- for the callers of the check
+use Rattle.table.specs.Answers.{checkedOf, Counted}
 
 pub checked-accepted : (ws : List ℕ) {c : Counts} → checkedOf (judged ws) ≡ Checked.Accepted c → Counted ws c
 unfolding judged

@@ -1,5 +1,5 @@
 -- What it says of the words that a part of the reading meets no fault: each word read is there, and lies in its range.
-use mathlib.Core.Path.{_≡_, refl, sym, ap, _∙_, subst}
+use mathlib.Core.Path.{_≡_, refl, ap, subst}
 use mathlib.Core.Logic.{_≢_}
 use mathlib.Core.Option.{Option, none, some}
 use mathlib.Core.List.{List, _∷_, []}
@@ -14,15 +14,10 @@ use Rattle.lists.proofs.Bits.{shift-none}
 use Rattle.lists.proofs.Firsts.{unless-none, then-none, first-each}
 use Rattle.refusal.specs.declared.Refusal.{Refusal}
 use Rattle.refusal.specs.declared.Refusal.the-variants.{Missing, Count, Domain, Partner, Weight}
-use Rattle.table.specs.declared.Got.{Got}
-use Rattle.table.specs.declared.Got.the-variants.{Value}
 use Rattle.table.specs.Table.{Table, In, boxes}
 use Rattle.table.specs.Words.{boxCount, pairCount, sizeAt, pairNext, pairsEnd, pairAt, pairsAt, tableOf, rangeFault, maskFault, sizeFault}
 use Rattle.table.specs.Words.{sizesFault, partnersFault, pairFault, pairsFault, bodyFault, firstFault, settled, judged, refused}
 use Rattle.table.specs.Words.{accepted, Accepted, BoxStands, PairStands, Ahead}
-use Rattle.table.specs.declared.Checked.{Checked}
-use Rattle.table.specs.Answers.{gotOf, checkedOf, checkedWith, bodyOf}
-use Rattle.table.proofs.Answers.{got-value}
 
 -- ---- one word
 
@@ -44,12 +39,6 @@ range-none ws at low high f e =
       range = (leb-true _ _ (unless-none _ _ (q .0)), leb-true _ _ (unless-none _ _ (q .1)));
       is = refl;
     }
-
-pub got-ranged : (ws : List ℕ) (at low high : ℕ) (f : Refusal) {r : Got} {v : ℕ}
-    → r ≡ gotOf (rangeFault ws at low high f) (getD ws at 0) → r ≡ Value v → Ranged ws at low high f v
-got-ranged ws at low high f p q =
-    let e = got-value (rangeFault ws at low high f) (getD ws at 0) (sym p ∙ q) in
-    subst (Ranged ws at low high f) (e .1) (range-none ws at low high f (e .0))
 
 pub mask-none : (ws : List ℕ) (m at : ℕ) → maskFault ws m at ≡ none → (at < length ws) × (getD ws at 0 < 2 ^ m)
 unfolding maskFault
@@ -196,28 +185,3 @@ accepted-fine ws t e = settled-none (firstFault ws) (tableOf ws) t e
 
 pub accepted-parts : (ws : List ℕ) → Accepted ws → Parts ws
 accepted-parts ws e = fault-none ws (accepted-fine ws (tableOf ws) e .0)
-
--- ---- the check's answer
-
--- a fault is answered as it is
-pub checked-fault : (ws : List ℕ) (f : Refusal) → firstFault ws ≡ some f → checkedOf (judged ws) ≡ Checked.Refused f
-unfolding judged
-checked-fault ws f e = rw e
-
--- where the counts are in range, the rest decides
-first-body : (ws : List ℕ) → rangeFault ws 0 1 64 (Count 0) ≡ none → rangeFault ws 1 0 256 (Count 1) ≡ none
-    → firstFault ws ≡ bodyFault ws (boxCount ws) (pairCount ws)
-unfolding firstFault
-first-body ws p q = rw (p, q)
-
-pub checked-body : (ws : List ℕ) → rangeFault ws 0 1 64 (Count 0) ≡ none → rangeFault ws 1 0 256 (Count 1) ≡ none
-    → checkedOf (judged ws) ≡ bodyOf ws (boxCount ws) (pairCount ws)
-unfolding judged
-checked-body ws p q = go (bodyFault ws (boxCount ws) (pairCount ws)) refl
-  where
-    go : (o : Option Refusal) → bodyFault ws (boxCount ws) (pairCount ws) ≡ o → checkedOf (judged ws) ≡ checkedWith o (boxCount ws) (pairCount ws)
-    go none e =
-        let f = first-body ws p q ∙ e in
-        let c = table-counts ws f in
-        rw (f, c .0, c .1)
-    go (some f) e = rw (first-body ws p q, e)

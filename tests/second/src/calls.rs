@@ -10,7 +10,7 @@ use crate::table::{check, choices, words_of, Side};
 
 /// By their numbers, from 1.
 pub const ENTRIES: [&str; 11] = [
-    "table::check",
+    "table_check::check",
     "plan::cost",
     "measure::exact_lengths",
     "measure::scratch_lengths",

@@ -1,9 +1,9 @@
 -- Each exit is one test of rangeFault, in its order.
 use borrow.Author.Needs.{needs}
 use borrow.Author.Tests.{le-ltb, lt-ltb, le-leb, lt-leb}
 use Rattle.table.specs.Words.{rangeFault}
-use Rattle.table.proofs.ranged.Statement.{statement}
-use Rattle.table.proofs.ranged.Tie as tie
+use Rattle.table_check.proofs.ranged.Statement.{statement}
+use Rattle.table_check.proofs.ranged.Tie as tie
 
 returns : tie.Need-returns
 unfolding rangeFault

@@ -1,12 +1,12 @@
 -- The two sizes are the pair's own, so its masks are judged by the second box's domain.
 use Rattle.table.specs.Words.{sizeAt, pairNext}
 use lib.ListN.{getD}
 use Prim.Native.Nat.{_+_}
 use mathlib.Core.Path.{_≡_, sym, ap, _∙_}
 use native.Mathlib.Omega.{arith}
 use borrow.Author.Needs.{needs}
-use Rattle.table.proofs.rows.Statement.{statement}
-use Rattle.table.proofs.rows.Tie as tie
+use Rattle.table_check.proofs.rows.Statement.{statement}
+use Rattle.table_check.proofs.rows.Tie as tie
 
 first-size : (c : tie.After-size) → let s = c .before .before .before .before in
     c .size .result ≡ sizeAt (s .args .words .now) (getD (s .args .words .now) (s .args .at) 0)

@@ -1,15 +1,16 @@
 -- Each exit is one part of partnersFault: the parts before it met no fault, since their words were read.
-use Rattle.table.proofs.Words.{Ranged, got-ranged}
-use Rattle.table.proofs.Answers.{got-wrong}
+use Rattle.table.proofs.Words.{Ranged}
+use Rattle.table_check.proofs.Reading.{got-ranged}
+use Rattle.table_check.proofs.Reading.{got-wrong}
 use Rattle.table.specs.Words.{rangeFault, partnersFault}
 use Rattle.refusal.specs.declared.Refusal.the-variants.{Partner}
 use Prim.Native.Nat.{_+_}
 use mathlib.Core.Path.{sym, _∙_}
 use native.Mathlib.Omega.{arith}
 use borrow.Author.Tests.{eq-eqb, ne-eqb}
 use borrow.Author.Needs.{needs}
-use Rattle.table.proofs.partners.Statement.{statement}
-use Rattle.table.proofs.partners.Tie as tie
+use Rattle.table_check.proofs.partners.Statement.{statement}
+use Rattle.table_check.proofs.partners.Tie as tie
 
 first-in : (c : tie.After-known-told) → let a = c .before .before .before .before .before .args in
     Ranged (a .words .now) (a .at) 1 (a .n) (Partner (a .at)) (c .before .x .given .0 .0)

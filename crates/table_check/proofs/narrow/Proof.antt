@@ -1,9 +1,9 @@
 -- Each exit is one test of maskFault, in its order.
 use borrow.Author.Needs.{needs}
 use borrow.Author.Tests.{le-ltb, lt-ltb, eq-eqb, ne-eqb}
 use Rattle.table.specs.Words.{maskFault}
-use Rattle.table.proofs.narrow.Statement.{statement}
-use Rattle.table.proofs.narrow.Tie as tie
+use Rattle.table_check.proofs.narrow.Statement.{statement}
+use Rattle.table_check.proofs.narrow.Tie as tie
 
 returns : tie.Need-returns
 unfolding maskFault

@@ -1,14 +1,15 @@
 -- Each exit is one part of pairFault: the boxes, the weight, the masks.
-use Rattle.table.proofs.Words.{Ranged, got-ranged, box-stands, partners-none}
-use Rattle.table.proofs.Answers.{got-wrong, step-next, step-stop}
+use Rattle.table.proofs.Words.{Ranged, box-stands, partners-none}
+use Rattle.table_check.proofs.Reading.{got-ranged}
+use Rattle.table_check.proofs.Reading.{got-wrong, step-next, step-stop}
 use Rattle.table.specs.Words.{rangeFault, partnersFault, pairFault}
 use Rattle.refusal.specs.declared.Refusal.the-variants.{Weight}
 use Prim.Native.Nat.{_+_}
 use mathlib.Core.Option.{none}
 use mathlib.Core.Path.{_≡_, sym, _∙_}
 use borrow.Author.Needs.{needs}
-use Rattle.table.proofs.pair.Statement.{statement}
-use Rattle.table.proofs.pair.Tie as tie
+use Rattle.table_check.proofs.pair.Statement.{statement}
+use Rattle.table_check.proofs.pair.Tie as tie
 
 boxes-in : (c : tie.After-known-told2) → let a = c .before .before .before .before .before .args in
     (partnersFault (a .words .now) (a .n) (a .at) ≡ none) × (a .at + 2 ≡ c .before .w .given .0 .0)

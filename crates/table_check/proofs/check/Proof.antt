@@ -1,12 +1,13 @@
 -- Each exit is one part of firstFault: the two counts, then the rest.
-use Rattle.table.proofs.Words.{Ranged, got-ranged, checked-fault, checked-body}
-use Rattle.table.proofs.Answers.{got-wrong}
+use Rattle.table.proofs.Words.{Ranged}
+use Rattle.table_check.proofs.Reading.{got-ranged, checked-fault, checked-body}
+use Rattle.table_check.proofs.Reading.{got-wrong}
 use Rattle.table.specs.Words.{rangeFault, firstFault}
 use Rattle.refusal.specs.declared.Refusal.the-variants.{Count}
 use mathlib.Core.Path.{sym, _∙_}
 use borrow.Author.Needs.{needs}
-use Rattle.table.proofs.check.Statement.{statement}
-use Rattle.table.proofs.check.Tie as tie
+use Rattle.table_check.proofs.check.Statement.{statement}
+use Rattle.table_check.proofs.check.Tie as tie
 
 boxes-in : (c : tie.After-known-told2) → Ranged (c .before .before .before .before .before .args .words .now) 0 1 64 (Count 0) (c .before .n .given .0 .0)
 boxes-in c = got-ranged _ _ _ _ _ (c .before .before .before .ranged .ensures) (c .before .n .given .1)

@@ -4,11 +4,11 @@ use native.Mathlib.Omega.{arith}
 use native.Mathlib.Nat.{sub-zero}
 use mathlib.Core.Path.{_≡_, sym, ap, _∙_}
 use Prim.Native.Nat.{_+_, _-_, _≤_}
 use Rattle.table.specs.Words.{sizesFault, sizeFault}
 use Rattle.lists.proofs.Firsts.{first-end, first-next, first-found}
-use Rattle.table.proofs.Answers.{got-value, got-wrong}
-use Rattle.table.proofs.sizes.Statement.{statement}
-use Rattle.table.proofs.sizes.Tie as tie
+use Rattle.table_check.proofs.Reading.{got-value, got-wrong}
+use Rattle.table_check.proofs.sizes.Statement.{statement}
+use Rattle.table_check.proofs.sizes.Tie as tie
 
 abbrev Inv-loop : tie.InvT-loop
 Inv-loop words n i₀ i = (i ≤ n) × (sizesFault words (n - i) (i + 2) ≡ sizesFault words n 2)

@@ -4,11 +4,11 @@ use native.Mathlib.Omega.{arith}
 use native.Mathlib.Nat.{sub-zero, add-zero}
 use mathlib.Core.Path.{_≡_, sym, ap, _∙_}
 use Prim.Native.Nat.{ℕ, _+_, _-_, _≤_}
 use Rattle.table.specs.Words.{masksFault, maskFault}
 use Rattle.lists.proofs.Firsts.{first-end, first-next, first-found}
-use Rattle.table.proofs.Answers.{got-value, got-wrong}
-use Rattle.table.proofs.masks.Statement.{statement}
-use Rattle.table.proofs.masks.Tie as tie
+use Rattle.table_check.proofs.Reading.{got-value, got-wrong}
+use Rattle.table_check.proofs.masks.Statement.{statement}
+use Rattle.table_check.proofs.masks.Tie as tie
 
 abbrev Inv-loop : tie.InvT-loop
 Inv-loop words m count from i₀ i = (i ≤ count) × (masksFault words m (count - i) (from + i) ≡ masksFault words m count from)

@@ -1,13 +1,13 @@
 -- Each exit is one part of bodyFault: the sizes, the pairs, what follows them.
-use Rattle.table.proofs.Answers.{step-next, step-stop}
+use Rattle.table_check.proofs.Reading.{step-next, step-stop}
 use Rattle.table.specs.Words.{sizesFault, pairsFault, pairsEnd, bodyFault}
 use Prim.Native.Nat.{_+_}
 use mathlib.Core.Option.{none}
 use mathlib.Core.Path.{_≡_, sym, _∙_}
 use borrow.Author.Tests.{le-leb, lt-leb}
 use borrow.Author.Needs.{needs}
-use Rattle.table.proofs.body.Statement.{statement}
-use Rattle.table.proofs.body.Tie as tie
+use Rattle.table_check.proofs.body.Statement.{statement}
+use Rattle.table_check.proofs.body.Tie as tie
 
 sizes-fine : (c : tie.After-known-told2) → let a = c .before .before .before .before .before .before .args in
     (sizesFault (a .words .now) (a .n) 2 ≡ none) × (a .n + 2 ≡ c .before .from .given .0 .0)

@@ -1,15 +1,15 @@
 -- What the pairs ahead give is what all of them give.
 use Rattle.table.proofs.Words.{end-turn, end-last}
-use Rattle.table.proofs.Answers.{step-next, step-stop}
+use Rattle.table_check.proofs.Reading.{step-next, step-stop}
 use Rattle.lists.proofs.Firsts.{first-end, first-next, first-found}
 use Rattle.table.specs.Words.{pairFault, pairsFault, pairsEnd, pairNext}
 use borrow.Author.Needs.{needs}
 use Prim.Native.Nat.{_-_, _≤_}
 use mathlib.Core.Path.{_≡_, sym, _∙_}
 use native.Mathlib.Nat.{sub-zero}
 use native.Mathlib.Omega.{arith}
-use Rattle.table.proofs.pairs.Statement.{statement}
-use Rattle.table.proofs.pairs.Tie as tie
+use Rattle.table_check.proofs.pairs.Statement.{statement}
+use Rattle.table_check.proofs.pairs.Tie as tie
 
 abbrev Inv-loop : tie.InvT-loop
 Inv-loop words n p from at₀ k₀ at k =
