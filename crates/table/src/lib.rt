@@ -3,11 +3,13 @@ use refusal::Refusal;
 ghost use mathlib.Core.Path.{_≡_};
 ghost use Rattle.table.specs.Words.{sizeAt, BoxStands};
 
+// How many boxes and pairs a table has.
 pub struct Counts {
     pub boxes: usize,
     pub pairs: usize,
 }
 
+// What the check of words answers.
 pub enum Checked {
     Accepted(Counts),
     Refused(Refusal),
