@@ -1,26 +1,11 @@
 // The WCNF text of a table: two scratch buffers, and room for the text.
-use crate::answer;
-use crate::answer::Answer;
-use crate::head;
-use crate::lent;
+use calls_case::answer;
+use calls_case::answer::Answer;
+use calls_case::head;
+use calls_case::lent;
 use wcnf_out::Written;
 
 fn write_wcnf(
-    words: &[u32],
-    hard: u32,
-    side: u32,
-    first: &mut [i32],
-    second: &mut [i32],
-    text: &mut [u8],
-) -> Answer {
-    match wcnf_out::write_wcnf(words, hard, side, first, second, text) {
-        Written::Refused(f) => answer::refused(f),
-        Written::Text(n) => answer::success(n as u64, 0, 0, 0, 0),
-    }
-}
-
-// Once both scratch buffers are cut to their lengths.
-fn call_with_scratch(
     case: &[u32],
     words: &[u32],
     first: &mut [i32],
@@ -29,29 +14,30 @@ fn call_with_scratch(
 ) -> Answer {
     let hard = head::number(case, head::HARD);
     let side = head::number(case, head::SIDE);
-    let n = head::length(case, head::TEXT);
-    if n <= text.len() {
-        return write_wcnf(words, hard, side, first, second, &mut text[..n]);
+    match wcnf_out::write_wcnf(words, hard, side, first, second, text) {
+        Written::Refused(f) => answer::refused(f),
+        Written::Text(n) => answer::success(n as u64, 0, 0, 0, 0),
     }
-    answer::not_called()
 }
 
-// Entry point 11.
-fn call_with_room(
+// Entry point 11, lent as much of each buffer as the case says.
+fn call(
     case: &[u32],
     words: &[u32],
     first: &mut [i32],
     second: &mut [i32],
     text: &mut [u8],
 ) -> Answer {
-    let n = head::length(case, head::FIRST);
-    let m = head::length(case, head::SECOND);
-    if n <= first.len() {
-        if m <= second.len() {
-            return call_with_scratch(case, words, &mut first[..n], &mut second[..m], text);
-        }
-    }
-    answer::not_called()
+    let a = head::cut(case, head::FIRST, first.len());
+    let b = head::cut(case, head::SECOND, second.len());
+    let c = head::cut(case, head::TEXT, text.len());
+    write_wcnf(
+        case,
+        words,
+        &mut first[..a],
+        &mut second[..b],
+        &mut text[..c],
+    )
 }
 
 fn call_filled(
@@ -64,7 +50,7 @@ fn call_filled(
     lent::fill_literals(case, head::FIRST, first);
     lent::fill_literals(case, head::SECOND, second);
     lent::fill_bytes(case, head::TEXT, text);
-    call_with_room(case, words, first, second, text)
+    call(case, words, first, second, text)
 }
 
 fn show_in(case: &[u32], words: &[u32], text: &mut [u8]) {
@@ -88,9 +74,11 @@ fn show_large(case: &[u32], words: &[u32]) {
 }
 
 pub fn show(case: &[u32], words: &[u32]) {
-    if head::shown(case, head::TEXT) <= 131072 {
+    if head::fits(case, head::TEXT, 131072) {
         show_small(case, words);
-    } else {
+    } else if head::fits(case, head::TEXT, 1800000) {
         show_large(case, words);
+    } else {
+        answer::say(answer::not_called());
     }
 }

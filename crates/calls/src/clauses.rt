@@ -1,27 +1,11 @@
 // The clause list of a table: two scratch buffers, and room for literals and weights.
-use crate::answer;
-use crate::answer::Answer;
-use crate::head;
-use crate::lent;
+use calls_case::answer;
+use calls_case::answer::Answer;
+use calls_case::head;
+use calls_case::lent;
 use encoder::Encoded;
 
 fn encode(
-    words: &[u32],
-    hard: u32,
-    side: u32,
-    first: &mut [i32],
-    second: &mut [i32],
-    literals: &mut [i32],
-    weights: &mut [u64],
-) -> Answer {
-    match encoder::encode(words, hard, side, first, second, literals, weights) {
-        Encoded::Refused(f) => answer::refused(f),
-        Encoded::Written(w) => answer::success(w.literals as u64, w.weights as u64, 0, 0, 0),
-    }
-}
-
-// Once both scratch buffers are cut to their lengths.
-fn call_with_scratch(
     case: &[u32],
     words: &[u32],
     first: &mut [i32],
@@ -31,26 +15,14 @@ fn call_with_scratch(
 ) -> Answer {
     let hard = head::number(case, head::HARD);
     let side = head::number(case, head::SIDE);
-    let n = head::length(case, head::LITERALS);
-    let m = head::length(case, head::WEIGHTS);
-    if n <= literals.len() {
-        if m <= weights.len() {
-            return encode(
-                words,
-                hard,
-                side,
-                first,
-                second,
-                &mut literals[..n],
-                &mut weights[..m],
-            );
-        }
+    match encoder::encode(words, hard, side, first, second, literals, weights) {
+        Encoded::Refused(f) => answer::refused(f),
+        Encoded::Written(w) => answer::success(w.literals as u64, w.weights as u64, 0, 0, 0),
     }
-    answer::not_called()
 }
 
-// Entry point 10.
-fn call_with_room(
+// Entry point 10, lent as much of each buffer as the case says.
+fn call(
     case: &[u32],
     words: &[u32],
     first: &mut [i32],
@@ -58,21 +30,18 @@ fn call_with_room(
     literals: &mut [i32],
     weights: &mut [u64],
 ) -> Answer {
-    let n = head::length(case, head::FIRST);
-    let m = head::length(case, head::SECOND);
-    if n <= first.len() {
-        if m <= second.len() {
-            return call_with_scratch(
-                case,
-                words,
-                &mut first[..n],
-                &mut second[..m],
-                literals,
-                weights,
-            );
-        }
-    }
-    answer::not_called()
+    let a = head::cut(case, head::FIRST, first.len());
+    let b = head::cut(case, head::SECOND, second.len());
+    let c = head::cut(case, head::LITERALS, literals.len());
+    let d = head::cut(case, head::WEIGHTS, weights.len());
+    encode(
+        case,
+        words,
+        &mut first[..a],
+        &mut second[..b],
+        &mut literals[..c],
+        &mut weights[..d],
+    )
 }
 
 fn call_filled(
@@ -87,7 +56,7 @@ fn call_filled(
     lent::fill_literals(case, head::SECOND, second);
     lent::fill_literals(case, head::LITERALS, literals);
     lent::fill_weights(case, head::WEIGHTS, weights);
-    call_with_room(case, words, first, second, literals, weights)
+    call(case, words, first, second, literals, weights)
 }
 
 fn say_left(
@@ -133,8 +102,15 @@ fn show_large(case: &[u32], words: &[u32]) {
 }
 
 fn is_small(case: &[u32]) -> bool {
-    if head::shown(case, head::LITERALS) <= 16384 {
-        return head::shown(case, head::WEIGHTS) <= 8192;
+    if head::fits(case, head::LITERALS, 16384) {
+        return head::fits(case, head::WEIGHTS, 8192);
+    }
+    false
+}
+
+fn is_large(case: &[u32]) -> bool {
+    if head::fits(case, head::LITERALS, 262144) {
+        return head::fits(case, head::WEIGHTS, 81920);
     }
     false
 }
@@ -142,7 +118,9 @@ fn is_small(case: &[u32]) -> bool {
 pub fn show(case: &[u32], words: &[u32]) {
     if is_small(case) {
         show_small(case, words);
-    } else {
+    } else if is_large(case) {
         show_large(case, words);
+    } else {
+        answer::say(answer::not_called());
     }
 }

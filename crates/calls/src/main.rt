@@ -1,31 +1,23 @@
 // calls: runs the entry points of the library on cases from standard input. A case says which, what it is given and how long the lent buffers are;
-// head.rt has its form. The buffers that the entry point is lent are filled, it is called, and its answer and these buffers are written to standard
+// calls_case has its form. The buffers that the entry point is lent are filled, it is called, and its answer and these buffers are written to standard
 // output, with eight entries past each: so a stray store, or one before a refusal, shows. tests/second holds it to its own answers.
-mod answer;
+use calls_case::answer;
+use calls_case::given;
+use calls_case::head;
+
 mod clause_text;
 mod clauses;
-mod coded;
-mod given;
-mod head;
-mod judging;
-mod lent;
-mod list;
-mod tables;
-mod texts;
 
 ghost use Prim.Native.Nat.{_<_};
 
-fn show_sheets_and_plans(case: &[u32], words: &[u32], plan: &[u32], bytes: &[u8]) {
-    let entry = head::number(case, head::ENTRY);
-    if entry == 9 {
-        list::show(case, bytes);
-    } else if tables::are_lent(entry) {
-        tables::show(case, words, bytes);
-    } else {
-        texts::show(case, words, plan);
+fn has_scratch(case: &[u32]) -> bool {
+    if head::fits(case, head::FIRST, 2048) {
+        return head::fits(case, head::SECOND, 2048);
     }
+    false
 }
 
+// Entry points 10 and 11; with another number none is called.
 fn show_clauses(case: &[u32], words: &[u32]) {
     let entry = head::number(case, head::ENTRY);
     if entry == 10 {
@@ -38,13 +30,12 @@ fn show_clauses(case: &[u32], words: &[u32]) {
 }
 
 fn show(case: &[u32], words: &[u32], plan: &[u32], bytes: &[u8]) {
-    let entry = head::number(case, head::ENTRY);
-    if entry < 5 {
-        judging::show(case, words, plan);
-    } else if entry < 10 {
-        show_sheets_and_plans(case, words, plan, bytes);
-    } else {
+    if head::number(case, head::ENTRY) < 10 {
+        calls_plans::show(case, words, plan, bytes);
+    } else if has_scratch(case) {
         show_clauses(case, words);
+    } else {
+        answer::say(answer::not_called());
     }
 }
 

@@ -1,5 +1,5 @@
 //! The entry points for a caller, one by one: what each is given, what it answers, and what it leaves in the buffers that
-//! it is lent. The bytes are those of the program `calls`, which head.rt of its crate describes.
+//! it is lent. The bytes are those of the program `calls`, which head.rt of the crate `calls_case` describes.
 
 use crate::encode::{encode, lengths_of, measure, Lent};
 use crate::plan::{decode, make_list, plan_cost};
