@@ -1,23 +1,13 @@
--- How long the texts are, exactly and at most; a turn of the loop over a plan.
+-- How long the texts are at most; a turn of the loop over a plan.
 use mathlib.Core.Path.{_≡_}
 use mathlib.Core.List.{List, [], _++_, flatMap}
-use Prim.Native.Nat.{ℕ, suc, _+_, _^_, _≤_, _<_}
+use Prim.Native.Nat.{ℕ, _+_, _^_, _≤_, _<_}
 use native.Mathlib.Omega.{arith}
 use native.Mathlib.Numerals.{add-one}
-use lib.ListN.{length, length-append, getD, drop, drop-of-length-le}
+use lib.ListN.{length, getD, drop, drop-of-length-le}
 use lib.Seq.{drop-cons}
-use Rattle.lists.specs.Decimal.{digits}
-use Rattle.lists.proofs.Decimal.{length-digits}
-use Rattle.refusal.specs.declared.Refusal.{Refusal}
-use Rattle.refusal.specs.Refusals.{numberOf, placeOf}
-use Rattle.refusal.proofs.Numbers.{small-number}
-use Rattle.text_out.specs.Texts.{lineOf}
-use Rattle.text_out.proofs.Texts.{length-line}
-use Rattle.answer_out.specs.Answer.{valueKey, costKey, placeKey, valueLine, valueLines, costLine, refusedLine}
-
-pub length-refused : (f : Refusal) → length (refusedLine f) ≡ 8 + (length (digits (numberOf f)) + length (lineOf placeKey (placeOf f)))
-unfolding refusedLine
-length-refused f = simp length-append (omega arith)
+use Rattle.text_out.proofs.Texts.{short-line}
+use Rattle.answer_out.specs.Answer.{valueKey, costKey, valueLine, valueLines, costLine}
 
 -- ---- a turn of the loop, from index i of the plan on
 
@@ -31,16 +21,9 @@ values-end l i h = rw (drop-of-length-le l {i = i} h)
 
 -- ---- at most: what a program's buffer has to hold
 
-short-line : (key : List ℕ) (k n : ℕ) → n < 10 ^ suc k → length (lineOf key n) ≤ length key + suc k + 1
-short-line key k n h = omega (arith, length-line key n, length-digits k n h)
-
 -- a value is a 32-bit word, and a cost one of 64 bits
 pub short-value : (v : ℕ) → v < 2 ^ 32 → length (valueLine v) ≤ 17
 short-value v h = short-line valueKey 9 v (omega arith)
 
 pub short-cost : (cost : ℕ) → cost < 2 ^ 64 → length (costLine cost) ≤ 26
 short-cost cost h = short-line costKey 19 cost (omega arith)
-
-pub short-refused : (f : Refusal) → placeOf f < 2 ^ 64 → length (refusedLine f) ≤ 38
-short-refused f h =
-    omega (arith, length-refused f, length-digits 1 (numberOf f) (small-number f), short-line placeKey 19 (placeOf f) (omega arith))

@@ -1,9 +1,6 @@
--- What the programs print of a plan with its cost, and of a refusal: document 01's lines.
+-- What `decode` prints of a plan with its cost: document 01's lines.
 use Prim.Native.Nat.{ℕ}
 use mathlib.Core.List.{List, [], _∷_, _++_, flatMap}
-use Rattle.lists.specs.Decimal.{digits}
-use Rattle.refusal.specs.declared.Refusal.{Refusal}
-use Rattle.refusal.specs.Refusals.{numberOf, placeOf}
 use Rattle.text_out.specs.Texts.{lineOf}
 
 -- value=
@@ -13,14 +10,6 @@ valueKey = 118 ∷ 97 ∷ 108 ∷ 117 ∷ 101 ∷ 61 ∷ []
 -- cost=
 abbrev pub costKey : List ℕ
 costKey = 99 ∷ 111 ∷ 115 ∷ 116 ∷ 61 ∷ []
-
--- refused=
-abbrev pub refusedKey : List ℕ
-refusedKey = 114 ∷ 101 ∷ 102 ∷ 117 ∷ 115 ∷ 101 ∷ 100 ∷ 61 ∷ []
-
--- a space and place=
-abbrev pub placeKey : List ℕ
-placeKey = 32 ∷ 112 ∷ 108 ∷ 97 ∷ 99 ∷ 101 ∷ 61 ∷ []
 
 abbrev pub valueLine : ℕ → List ℕ
 valueLine v = lineOf valueKey v
@@ -36,7 +25,3 @@ valueLines plan = flatMap valueLine plan
 -- a value line for each box, and then the cost
 unfoldable pub answerText : List ℕ → ℕ → List ℕ
 answerText plan cost = valueLines plan ++ costLine cost
-
--- refused=N place=P
-unfoldable pub refusedLine : Refusal → List ℕ
-refusedLine f = refusedKey ++ (digits (numberOf f) ++ lineOf placeKey (placeOf f))

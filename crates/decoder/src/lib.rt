@@ -5,7 +5,6 @@ use plan::Judged;
 use refusal::Refusal;
 use table::Counts;
 ghost use mathlib.Core.Path.{_≡_};
-ghost use mathlib.Core.List.{[], _∷_};
 ghost use Prim.Native.Nat.{_+_, _^_, _≤_, _<_};
 ghost use lib.ListN.{length};
 ghost use lib.Seq.{sets};
@@ -31,17 +30,6 @@ pub enum Made {
     Refused(Refusal),
 }
 
-fn put_value(plan: &mut [u32], at: usize, v: u32) -> usize
-    requires { ⌜ at + 1 < 2 ^ 64 ⌝ }
-    ensures { λ r. ⌜ Wrote (now (plan .entry)) at (v ∷ []) r (now (plan .exit)) ⌝ }
-{
-    if at < plan.len() {
-        plan[at] = v;
-        return at + 1;
-    }
-    at + 1
-}
-
 // The plan of the list, one value for each box.
 fn put_plan(words: &[u32], list: &[u8], plan: &mut [u32]) -> usize
     requires { ⌜ Accepted (now words) ⌝ }
@@ -52,7 +40,7 @@ fn put_plan(words: &[u32], list: &[u8], plan: &mut [u32]) -> usize
     let mut b = 1;
     while b <= n {
         let v = list_boxes::value_of(words, list, b);
-        at = put_value(plan, at, v);
+        at = stores::put_word(plan, at, v);
         b += 1;
     }
     at

@@ -1,6 +1,5 @@
 // The characters of a list line, stored as the entries of a list.
 ghost use mathlib.Core.Path.{_≡_};
-ghost use lib.ListN.{set};
 ghost use lib.Seq.{sets};
 ghost use Rattle.list_entries.specs.Entries.{entryOf, entriesOf};
 
@@ -14,14 +13,6 @@ fn entry_of(c: u8) -> u8
     0
 }
 
-fn put_entry(list: &mut [u8], at: usize, entry: u8)
-    ensures { λ _. ⌜ now (list .exit) ≡ set (now (list .entry)) at entry ⌝ }
-{
-    if at < list.len() {
-        list[at] = entry;
-    }
-}
-
 // The entries of all characters, from the start.
 pub fn put_list(list: &mut [u8], characters: &[u8])
     ensures { λ _. ⌜ now (list .exit) ≡ sets (now (list .entry)) 0 (entriesOf (now (characters .entry))) ⌝ }
@@ -29,7 +20,7 @@ pub fn put_list(list: &mut [u8], characters: &[u8])
     let mut i = 0;
     while i < characters.len() {
         let entry = entry_of(characters[i]);
-        put_entry(list, i, entry);
+        stores::put_byte(list, i, entry);
         i += 1;
     }
 }

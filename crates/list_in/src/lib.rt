@@ -20,25 +20,6 @@ pub enum ReadList {
     Refused(Refusal),
 }
 
-fn put_word(table: &mut [u32], at: usize, word: u32)
-    ensures { λ _. ⌜ now (table .exit) ≡ set (now (table .entry)) at word ⌝ }
-{
-    if at < table.len() {
-        table[at] = word;
-    }
-}
-
-// All words, from the start.
-fn put_words(table: &mut [u32], words: &[u32])
-    ensures { λ _. ⌜ now (table .exit) ≡ sets (now (table .entry)) 0 (now (words .entry)) ⌝ }
-{
-    let mut i = 0;
-    while i < words.len() {
-        put_word(table, i, words[i]);
-        i += 1;
-    }
-}
-
 // How many entries a list of this table has.
 fn wanted(words: &[u32], hard: u32, side: u32) -> usize
     requires { ⌜ Accepted (now words) ⌝ }
@@ -77,7 +58,7 @@ fn store(
     if table.len() < n {
         return ReadList::Refused(Refusal::Room(n));
     }
-    put_words(table, words);
+    stores::put_words(table, 0, words);
     list_entries::put_list(list, characters);
     ReadList::Read(hard, side, n, m)
 }

@@ -8,7 +8,6 @@ use plan::Judged;
 use refusal::Refusal;
 use table::Counts;
 ghost use mathlib.Core.Path.{_≡_};
-ghost use mathlib.Core.List.{[], _∷_};
 ghost use Prim.Native.Nat.{_+_, _^_, _≤_, _<_};
 ghost use lib.ListN.{length, replicate};
 ghost use Rattle.lists.specs.Stores.{Wrote};
@@ -25,17 +24,6 @@ ghost use Rattle.maker.specs.Rows.{firstIn, dueIn, rowOf, rowsOf};
 enum Part {
     Values,
     Thresholds,
-}
-
-fn put_entry(list: &mut [u8], at: usize, v: u8) -> usize
-    requires { ⌜ at + 1 < 2 ^ 64 ⌝ }
-    ensures { λ r. ⌜ Wrote (now (list .entry)) at (v ∷ []) r (now (list .exit)) ⌝ }
-{
-    if at < list.len() {
-        list[at] = v;
-        return at + 1;
-    }
-    at + 1
 }
 
 fn bit(yes: bool) -> u8
@@ -76,7 +64,7 @@ fn put_row(list: &mut [u8], from: usize, part: Part, m: u32, a: u32) -> usize
     let mut j = first(part);
     while j <= m {
         let v = bit(due(part, j, a));
-        at = put_entry(list, at, v);
+        at = stores::put_byte(list, at, v);
         j += 1;
     }
     at
@@ -117,7 +105,7 @@ fn put_zeros(list: &mut [u8], from: usize, count: usize) -> usize
     let mut at = from;
     let mut i = 0;
     while i < count {
-        at = put_entry(list, at, 0);
+        at = stores::put_byte(list, at, 0);
         i += 1;
     }
     at

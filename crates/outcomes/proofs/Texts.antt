@@ -5,6 +5,8 @@ use Rattle.text_out.proofs as text-out
 use Rattle.scan.proofs as scan
 use Rattle.row_scan.proofs as row-scan
 use Rattle.answer_out.proofs as answer-out
+use Rattle.refusal_out.proofs as refusal-out
+use Rattle.stores.proofs as stores
 use Rattle.list_entries.proofs as list-entries
 use Rattle.list_scan.proofs as list-scan
 use Rattle.wcnf.proofs as wcnf
@@ -13,8 +15,14 @@ use Rattle.wcnf_parts.proofs as wcnf-parts
 use Rattle.wcnf_text.proofs as wcnf-text
 use Rattle.wcnf_out.proofs as wcnf-out
 
-pub text-out-put-byte-decided : Decided text-out.put_byte.ended text-out.put_byte.Reads.Post
-text-out-put-byte-decided = decided λ _ _ _ _ p q. search same
+pub stores-put-byte-decided : Decided stores.put_byte.ended stores.put_byte.Reads.Post
+stores-put-byte-decided = decided λ _ _ _ _ p q. search same
+
+pub stores-put-word-decided : Decided stores.put_word.ended stores.put_word.Reads.Post
+stores-put-word-decided = decided λ _ _ _ _ p q. search same
+
+pub stores-put-words-decided : Decided stores.put_words.ended stores.put_words.Reads.Post
+stores-put-words-decided = decided λ _ _ _ _ p q. search same
 
 pub text-out-put-bytes-decided : Decided text-out.put_bytes.ended text-out.put_bytes.Reads.Post
 text-out-put-bytes-decided = decided λ _ _ _ _ p q. search same
@@ -43,8 +51,8 @@ row-scan-row-line-decided = decided λ _ _ _ _ p q. search same
 pub answer-out-put-answer-decided : Decided answer-out.put_answer.ended answer-out.put_answer.Reads.Post
 answer-out-put-answer-decided = decided λ _ _ _ _ p q. search same
 
-pub answer-out-put-refused-decided : Decided answer-out.put_refused.ended answer-out.put_refused.Reads.Post
-answer-out-put-refused-decided = decided λ _ _ _ _ p q. search same
+pub refusal-out-put-refused-decided : Decided refusal-out.put_refused.ended refusal-out.put_refused.Reads.Post
+refusal-out-put-refused-decided = decided λ _ _ _ _ p q. search same
 
 pub list-scan-line-start-decided : Decided list-scan.line_start.ended list-scan.line_start.Reads.Post
 list-scan-line-start-decided = decided λ _ _ _ _ p q. search same

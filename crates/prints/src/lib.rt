@@ -12,6 +12,6 @@ pub fn send(text: &[u8], n: usize) -> bool {
 // The one line of a refusal.
 pub fn refuse(f: Refusal) {
     let mut line = [0u8; 38];
-    let n = answer_out::put_refused(&mut line, 0, f);
+    let n = refusal_out::put_refused(&mut line, 0, f);
     send(&line, n);
 }

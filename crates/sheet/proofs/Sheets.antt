@@ -13,10 +13,9 @@ use Rattle.clause.specs.declared.Side.the-variants.{Direct, Support, First, Lit
 use Rattle.lists.specs.Lists.{nth, Each}
 use Rattle.lists.proofs.Lists.{each-at}
 use Rattle.lists.proofs.Sums.{each-as, sum-most, length-flat}
-use Rattle.lists.proofs.Decimal.{length-digits}
 use Rattle.table.specs.Table.{Pair, Table, boxes, In, SoundPair, Sound}
 use Rattle.text_out.specs.Texts.{lineOf, rowOf}
-use Rattle.text_out.proofs.Texts.{length-line, length-row}
+use Rattle.text_out.proofs.Texts.{short-line, length-row}
 use Rattle.sheet.specs.Keys.{boxesKey, valuesKey, pairsKey, firstKey, secondKey, weightKey, allowKey, hardLine, sideLine}
 use Rattle.sheet.specs.Sheet.{valuesText, rowsText, headText, pairText, pairsText, bodyText, sheetText}
 
@@ -69,16 +68,13 @@ pairs-nil sizes = refl
 
 -- ---- a sound table's sheet is short
 
-short-line : (key : List ℕ) (n : ℕ) → n < 10000000 → length (lineOf key n) ≤ length key + 8
-short-line key n h = omega (arith, length-line key n, length-digits 6 n (omega arith))
-
 short-flat : {A : Type 0} (g : A → List ℕ) (P : A → Type 0) (k : ℕ) → ((a : A) → P a → length (g a) ≤ k) → (l : List A) → Each P l
     → length (flatMap g l) ≤ length l * k
 short-flat g P k f l e = rw length-flat (sum-most (λ a. length (g a)) k l (each-as P (λ a. length (g a) ≤ k) f l e))
 
 short-values : (sizes : List ℕ) → Each (In 1 16) sizes → length (valuesText sizes) ≤ length sizes * 15
 unfolding valuesText
-short-values sizes e = short-flat (lineOf valuesKey) (In 1 16) 15 (λ m h. short-line valuesKey m (omega arith)) sizes e
+short-values sizes e = short-flat (lineOf valuesKey) (In 1 16) 15 (λ m h. short-line valuesKey 6 m (omega arith)) sizes e
 
 short-rows : (m : ℕ) (masks : List ℕ) → m ≤ 16 → Each (λ mask. mask < 2 ^ m) masks → length (rowsText m masks) ≤ length masks * 23
 unfolding rowsText
@@ -92,9 +88,9 @@ short-pair t p S q =
     let rows = short-rows (nth (t .sizes) (p .second)) (p .masks) (size-most (t .sizes) (p .second) (S .sizes) (q .second)) (q .masks) in
     let count = size-most (t .sizes) (p .first) (S .sizes) (q .first) in
     let few = S .boxes .1 in
-    let one = short-line firstKey (p .first) (omega (arith, q .first .1)) in
-    let two = short-line secondKey (p .second) (omega (arith, q .second .1)) in
-    let three = short-line weightKey (p .weight) (omega (arith, q .weight .1)) in
+    let one = short-line firstKey 6 (p .first) (omega (arith, q .first .1)) in
+    let two = short-line secondKey 6 (p .second) (omega (arith, q .second .1)) in
+    let three = short-line weightKey 6 (p .weight) (omega (arith, q .weight .1)) in
     omega (arith, length-pair (t .sizes) p, length-head (p .first) (p .second) (p .weight), q .rows)
 
 short-hard : (h : Hard) → length (hardLine h) ≤ 14
@@ -119,7 +115,7 @@ pub short-sheet : (h : Hard) (s : Side) (t : Table) → Sound t → length (shee
 unfolding pairsText
 short-sheet h s t S =
     let pairs = short-flat (pairText (t .sizes)) (SoundPair t) 500 (λ p q. short-pair t p S q) (t .pairs) (S .pairs) in
-    let one = short-line boxesKey (boxes t) (omega (arith, S .boxes .1)) in
-    let two = short-line pairsKey (length (t .pairs)) (omega (arith, S .count)) in
+    let one = short-line boxesKey 6 (boxes t) (omega (arith, S .boxes .1)) in
+    let two = short-line pairsKey 6 (length (t .pairs)) (omega (arith, S .count)) in
     let values = short-values (t .sizes) (S .sizes) in
     omega (arith, length-sheet h s t, length-body t, S .boxes .1, S .count, short-hard h, short-side s)

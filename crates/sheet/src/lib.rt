@@ -35,21 +35,21 @@ pub fn put_boxes(out: &mut [u8], at: usize, n: u32) -> usize
     requires { ⌜ at + length (lineOf boxesKey n) < 2 ^ 64 ⌝ }
     ensures { λ r. ⌜ Wrote (now (out .entry)) at (lineOf boxesKey n) r (now (out .exit)) ⌝ }
 {
-    text_out::put_line(out, at, b"boxes=", n)
+    text_out::put_line(out, at, b"boxes=", n as u64)
 }
 
 pub fn put_size(out: &mut [u8], at: usize, m: u32) -> usize
     requires { ⌜ at + length (lineOf valuesKey m) < 2 ^ 64 ⌝ }
     ensures { λ r. ⌜ Wrote (now (out .entry)) at (lineOf valuesKey m) r (now (out .exit)) ⌝ }
 {
-    text_out::put_line(out, at, b"values=", m)
+    text_out::put_line(out, at, b"values=", m as u64)
 }
 
 pub fn put_count(out: &mut [u8], at: usize, p: u32) -> usize
     requires { ⌜ at + length (lineOf pairsKey p) < 2 ^ 64 ⌝ }
     ensures { λ r. ⌜ Wrote (now (out .entry)) at (lineOf pairsKey p) r (now (out .exit)) ⌝ }
 {
-    text_out::put_line(out, at, b"pairs=", p)
+    text_out::put_line(out, at, b"pairs=", p as u64)
 }
 
 // A pair's boxes and weight, a line each.
@@ -57,9 +57,9 @@ pub fn put_head(out: &mut [u8], at: usize, first: u32, second: u32, weight: u32)
     requires { ⌜ at + length (headText first second weight) < 2 ^ 64 ⌝ }
     ensures { λ r. ⌜ Wrote (now (out .entry)) at (headText first second weight) r (now (out .exit)) ⌝ }
 {
-    let one = text_out::put_line(out, at, b"first=", first);
-    let two = text_out::put_line(out, one, b"second=", second);
-    text_out::put_line(out, two, b"weight=", weight)
+    let one = text_out::put_line(out, at, b"first=", first as u64);
+    let two = text_out::put_line(out, one, b"second=", second as u64);
+    text_out::put_line(out, two, b"weight=", weight as u64)
 }
 
 // The allow line of one value of the first box: a character for each of the second box's `m` values.

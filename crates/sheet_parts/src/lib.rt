@@ -17,15 +17,6 @@ pub enum Step {
     Bad(usize),
 }
 
-// One word, where the table reaches.
-fn put_word(table: &mut [u32], at: usize, w: u32)
-    ensures { λ _. ⌜ now (table .exit) ≡ set (now (table .entry)) at w ⌝ }
-{
-    if at < table.len() {
-        table[at] = w;
-    }
-}
-
 // The `n` lines of domain sizes, into `sizes` from its start.
 pub fn read_values(text: &[u8], from: usize, n: usize, sizes: &mut [u32]) -> Step
     requires { ⌜ from ≤ length (now text) ⌝ }
@@ -37,7 +28,7 @@ pub fn read_values(text: &[u8], from: usize, n: usize, sizes: &mut [u32]) -> Ste
         let Line::Found(v, next) = sheet_scan::values_line(text, at) else {
             return Step::Bad(k);
         };
-        put_word(sizes, k, v);
+        stores::put_word(sizes, k, v);
         at = next;
         k += 1;
     }
@@ -63,7 +54,7 @@ fn read_rows(
         let Line::Found(v, next) = sheet_scan::allow_line(text, at, m) else {
             return Step::Bad(word);
         };
-        put_word(table, word, v);
+        stores::put_word(table, word, v);
         at = next;
         word += 1;
         k += 1;
@@ -88,17 +79,17 @@ fn read_pair(text: &[u8], at: usize, sizes: &[u32], table: &mut [u32], word: usi
     let Line::Found(first, a) = sheet_scan::first_line(text, at, n) else {
         return Step::Bad(word);
     };
-    put_word(table, word, first);
+    stores::put_word(table, word, first);
     let one = word + 1;
     let Line::Found(second, b) = sheet_scan::second_line(text, a, n, first) else {
         return Step::Bad(one);
     };
-    put_word(table, one, second);
+    stores::put_word(table, one, second);
     let two = one + 1;
     let Line::Found(weight, rows) = sheet_scan::weight_line(text, b) else {
         return Step::Bad(two);
     };
-    put_word(table, two, weight);
+    stores::put_word(table, two, weight);
     let m = size_of(sizes, second);
     let count = size_of(sizes, first);
     let masks = two + 1;
@@ -135,21 +126,6 @@ pub fn read_pairs(
     Step::Next(at, word)
 }
 
-// All the domain sizes, from `from` on.
-fn put_sizes(table: &mut [u32], from: usize, sizes: &[u32]) -> usize
-    requires { ⌜ from + length (now sizes) < 2 ^ 64 ⌝ }
-    ensures { λ r. ⌜ Wrote (now (table .entry)) from (now (sizes .entry)) r (now (table .exit)) ⌝ }
-{
-    let mut at = from;
-    let mut i = 0;
-    while i < sizes.len() {
-        put_word(table, at, sizes[i]);
-        at += 1;
-        i += 1;
-    }
-    at
-}
-
 // All the words of a sheet that was read to its end: the counts, the sizes, the pairs.
 pub fn fill(text: &[u8], from: usize, sizes: &[u32], p: u32, table: &mut [u32])
     requires { ⌜ Sized (now sizes) × (from ≤ length (now text)) × (length (now sizes) + 2 ≤ from) ⌝ }
@@ -158,8 +134,8 @@ pub fn fill(text: &[u8], from: usize, sizes: &[u32], p: u32, table: &mut [u32])
         (length (now (sizes .entry)) ∷ p ∷ (now (sizes .entry) ++ words (pairsAt (now (text .entry)) (now (sizes .entry)) p from))) ⌝ }
 {
     let n = sizes.len() as u32;
-    put_word(table, 0, n);
-    put_word(table, 1, p);
-    let first = put_sizes(table, 2, sizes);
+    stores::put_word(table, 0, n);
+    stores::put_word(table, 1, p);
+    let first = stores::put_words(table, 2, sizes);
     read_pairs(text, from, sizes, p, table, first);
 }

@@ -1,16 +1,21 @@
 -- How long a line is, and a row's characters one by one.
 use mathlib.Core.Path.{_≡_, refl, ap}
 use mathlib.Core.List.{List, [], _∷_, _++_, append-assoc}
-use Prim.Native.Nat.{ℕ, zero, suc, _+_, _-_, _/_, _%_, _<_}
+use Prim.Native.Nat.{ℕ, zero, suc, _+_, _-_, _/_, _%_, _^_, _≤_, _<_}
 use native.Mathlib.Numerals.{sub-one}
 use native.Mathlib.Omega.{arith}
 use lib.ListN.{length, length-append}
 use Rattle.lists.specs.Decimal.{digits}
+use Rattle.lists.proofs.Decimal.{length-digits}
 use Rattle.text_out.specs.Texts.{lineOf, bitsOf, rowOf}
 
 pub length-line : (key : List ℕ) (n : ℕ) → length (lineOf key n) ≡ length key + length (digits n) + 1
 unfolding lineOf
 length-line key n = simp length-append (omega arith)
+
+-- what a line takes at most, of a number with suc k digits
+pub short-line : (key : List ℕ) (k n : ℕ) → n < 10 ^ suc k → length (lineOf key n) ≤ length key + suc k + 1
+short-line key k n h = omega (arith, length-line key n, length-digits k n h)
 
 pub length-bits : (m mask : ℕ) → length (bitsOf m mask) ≡ m
 unfolding bitsOf

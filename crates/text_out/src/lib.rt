@@ -1,22 +1,10 @@
-// Text put into a lent slice of bytes. A cursor goes in and the next one comes out; a byte past the slice's end moves the cursor
-// alone, so that the same function measures and writes.
+// Text put into a lent slice of bytes: numbers, lines and rows, as stores puts a byte.
 ghost use mathlib.Core.List.{[], _∷_};
 ghost use Prim.Native.Nat.{_+_, _^_, _<_};
 ghost use lib.ListN.{length};
 ghost use Rattle.lists.specs.Stores.{Wrote};
 ghost use Rattle.lists.specs.Decimal.{digits};
 ghost use Rattle.text_out.specs.Texts.{lineOf, bitsOf, rowOf};
-
-pub fn put_byte(out: &mut [u8], at: usize, b: u8) -> usize
-    requires { ⌜ at + 1 < 2 ^ 64 ⌝ }
-    ensures { λ r. ⌜ Wrote (now (out .entry)) at (b ∷ []) r (now (out .exit)) ⌝ }
-{
-    if at < out.len() {
-        out[at] = b;
-        return at + 1;
-    }
-    at + 1
-}
 
 // All of `text`.
 pub fn put_bytes(out: &mut [u8], from: usize, text: &[u8]) -> usize
@@ -27,7 +15,7 @@ pub fn put_bytes(out: &mut [u8], from: usize, text: &[u8]) -> usize
     let mut i = 0;
     while i < text.len() {
         let b = text[i];
-        at = put_byte(out, at, b);
+        at = stores::put_byte(out, at, b);
         i += 1;
     }
     at
@@ -39,20 +27,20 @@ pub fn put_number(out: &mut [u8], at: usize, n: u64) -> usize
     ensures { λ r. ⌜ Wrote (now (out .entry)) at (digits n) r (now (out .exit)) ⌝ }
 {
     if n < 10 {
-        return put_byte(out, at, 48 + n as u8);
+        return stores::put_byte(out, at, 48 + n as u8);
     }
     let last = put_number(out, at, n / 10);
-    put_byte(out, last, 48 + (n % 10) as u8)
+    stores::put_byte(out, last, 48 + (n % 10) as u8)
 }
 
 // A line: the key, a number, a line feed.
-pub fn put_line(out: &mut [u8], at: usize, key: &[u8], n: u32) -> usize
+pub fn put_line(out: &mut [u8], at: usize, key: &[u8], n: u64) -> usize
     requires { ⌜ at + length (lineOf (now key) n) < 2 ^ 64 ⌝ }
     ensures { λ r. ⌜ Wrote (now (out .entry)) at (lineOf (now (key .entry)) n) r (now (out .exit)) ⌝ }
 {
     let number = put_bytes(out, at, key);
-    let feed = put_number(out, number, n as u64);
-    put_byte(out, feed, 10)
+    let feed = put_number(out, number, n);
+    stores::put_byte(out, feed, 10)
 }
 
 // A character 0 or 1 for each of the values 1 to `m`, value 1 leftmost.
@@ -64,7 +52,7 @@ fn put_bits(out: &mut [u8], from: usize, m: u32, mask: u32) -> usize
     let mut rest = mask;
     let mut at = from;
     while 0 < left {
-        at = put_byte(out, at, 48 + (rest % 2) as u8);
+        at = stores::put_byte(out, at, 48 + (rest % 2) as u8);
         rest /= 2;
         left -= 1;
     }
@@ -77,6 +65,6 @@ pub fn put_row(out: &mut [u8], at: usize, key: &[u8], m: u32, mask: u32) -> usiz
     ensures { λ r. ⌜ Wrote (now (out .entry)) at (rowOf (now (key .entry)) m mask) r (now (out .exit)) ⌝ }
 {
     let bits = put_bytes(out, at, key);
-    let feed = put_bits(out, bits, m, mask);
-    put_byte(out, feed, 10)
+    let end = put_bits(out, bits, m, mask);
+    stores::put_byte(out, end, 10)
 }

@@ -22,7 +22,7 @@ fn put_sign(out: &mut [u8], at: usize, v: i32) -> usize
     ensures { λ r. ⌜ Wrote (now (out .entry)) at (sign v) r (now (out .exit)) ⌝ }
 {
     if v < 0 {
-        return text_out::put_byte(out, at, 45);
+        return stores::put_byte(out, at, 45);
     }
     at
 }
@@ -64,7 +64,7 @@ fn put_entry(out: &mut [u8], at: usize, weight: u64, past: i32, v: i32) -> usize
     ensures { λ r. ⌜ Wrote (now (out .entry)) at (entryText weight past v) r (now (out .exit)) ⌝ }
 {
     let space = put_opening(out, at, weight, past);
-    let number = text_out::put_byte(out, space, 32);
+    let number = stores::put_byte(out, space, 32);
     put_ending(out, number, v)
 }
 

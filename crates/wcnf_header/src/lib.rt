@@ -10,7 +10,7 @@ fn put_ended(out: &mut [u8], at: usize, n: u64, b: u8) -> usize
     ensures { λ r. ⌜ Wrote (now (out .entry)) at (ended n b) r (now (out .exit)) ⌝ }
 {
     let end = text_out::put_number(out, at, n);
-    text_out::put_byte(out, end, b)
+    stores::put_byte(out, end, b)
 }
 
 // p wcnf V C T: variables, clauses and top.

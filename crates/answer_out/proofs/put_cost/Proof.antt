@@ -5,11 +5,11 @@ use borrow.Author.Needs.{needs}
 use Rattle.answer_out.proofs.put_cost.Statement.{statement}
 use Rattle.answer_out.proofs.put_cost.Tie as tie
 
-slice-aggregate-put-long-line : tie.Need-slice-aggregate-put-long-line
-slice-aggregate-put-long-line c = search needs
+slice-aggregate-put-line : tie.Need-slice-aggregate-put-line
+slice-aggregate-put-line c = search needs
 
-put-long-line-requires : tie.Need-put-long-line-requires
-put-long-line-requires c κs = let s = c .before .before .before in omega (arith, s .pre, short-cost (s .args .cost) (s .fits .cost .fits))
+put-line-requires : tie.Need-put-line-requires
+put-line-requires c κs = let s = c .before .before .before in omega (arith, s .pre, short-cost (s .args .cost) (s .fits .cost .fits))
 
 same-length : tie.Need-same-length
 same-length c = search needs
@@ -19,4 +19,4 @@ returns c = search needs
 
 pub put-cost-spec : {M : Type 1} → statement M
 put-cost-spec =
-    tie.close (tie.spec slice-aggregate-put-long-line put-long-line-requires same-length returns)
+    tie.close (tie.spec slice-aggregate-put-line put-line-requires same-length returns)

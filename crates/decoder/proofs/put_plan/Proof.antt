@@ -40,8 +40,8 @@ value-of-requires c κs =
     let s = w .before .before .before .before in
     (s .pre, (l .loop .inv .0, omega (arith, w .word .ensures, c .loop-test .taken)))
 
-put-value-requires : tie.Need-put-value-requires Inv-loop μ-loop
-put-value-requires c κs = omega (arith, c .before .before .before .loop .inv)
+put-word-requires : tie.Need-put-word-requires Inv-loop μ-loop
+put-word-requires c κs = omega (arith, c .before .before .before .loop .inv)
 
 add-b : tie.Need-add-b Inv-loop μ-loop
 add-b c =
@@ -67,8 +67,8 @@ loop-again c =
     let rest = map f (count (b + 1) (n + 1 - (b + 1))) in
     let turn = ap (map f) (count-turn b n (t .loop-test .taken)) ∙ ap (λ (k : ℕ). k ∷ rest) (sym (v .value-of .ensures)) in (
       omega arith,
-      omega (arith, p .put-value .ensures .next, l .loop .inv .1),
-      owes-part (l .loop .inv .2) turn (p .put-value .ensures),
+      omega (arith, p .put-word .ensures .next, l .loop .inv .1),
+      owes-part (l .loop .inv .2) turn (p .put-word .ensures),
     )
 
 same-length : tie.Need-same-length Inv-loop μ-loop
@@ -91,7 +91,7 @@ put-plan-spec =
     word-requires
     loop-holds
     value-of-requires
-    put-value-requires
+    put-word-requires
     add-b
     loop-less
     loop-again

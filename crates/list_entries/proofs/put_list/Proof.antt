@@ -27,8 +27,8 @@ shared-slice-read-entry-of c = omega arith
 entry-of-requires : tie.Need-entry-of-requires Inv-loop μ-loop
 entry-of-requires c κs = search needs
 
-put-entry-requires : tie.Need-put-entry-requires Inv-loop μ-loop
-put-entry-requires c κs = search needs
+put-byte-requires : tie.Need-put-byte-requires Inv-loop μ-loop
+put-byte-requires c κs = search needs
 
 add-i : tie.Need-add-i Inv-loop μ-loop
 add-i c = omega arith
@@ -43,7 +43,7 @@ loop-again c =
       omega arith,
       owes-part {vs = entryOf (getD (a .characters .now) (l .loop .i) 0) ∷ []} (l .loop .inv .1)
           (entries-turn (a .characters .now) (l .loop .i) (omega arith))
-          (record { next = refl; list = rw (c .before .before .before .before .entry-of .ensures) at (c .before .before .put-entry .ensures) }),
+          (record { next = refl; list = (rw (c .before .before .before .before .entry-of .ensures) at (c .before .before .put-byte .ensures)) .list }),
     )
 
 same-length : tie.Need-same-length Inv-loop μ-loop
@@ -63,7 +63,7 @@ put-list-spec =
     loop-holds
     shared-slice-read-entry-of
     entry-of-requires
-    put-entry-requires
+    put-byte-requires
     add-i
     loop-less
     loop-again

@@ -49,7 +49,7 @@ returns-4 c =
     let w = c .before .before .before .before .before .before .before .before .before .before .before in
     let a = w .before .before .before .before .before .args in
     both-fit (a .hard) (a .side) (a .words .now) (entriesOf (a .characters .now)) (a .table .now) (a .list .now) refl (length-entries (a .characters .now))
-    (w .wanted .ensures) (omega arith) (omega arith) (omega arith) (c .before .before .before .before .before .before .put-words .ensures)
+    (w .wanted .ensures) (omega arith) (omega arith) (omega arith) (c .before .before .before .before .before .before .put-words .ensures .list)
     (c .before .before .put-list .ensures)
 
 pub store-spec : {M : Type 1} → statement M

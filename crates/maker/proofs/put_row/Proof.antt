@@ -38,8 +38,8 @@ due-requires c κs = search needs
 bit-requires : tie.Need-bit-requires Inv-loop μ-loop
 bit-requires c κs = search needs
 
-put-entry-requires : tie.Need-put-entry-requires Inv-loop μ-loop
-put-entry-requires c κs =
+put-byte-requires : tie.Need-put-byte-requires Inv-loop μ-loop
+put-byte-requires c κs =
     let t = c .before .before .before in
     omega (arith, t .loop-test .taken, t .before .loop .inv .1, t .before .before .before .before .pre)
 
@@ -63,8 +63,8 @@ loop-again c =
     let one : v .bit .result ≡ bit (dueIn (a .part) (l .loop .j) (a .a)) = v .bit .ensures ∙ ap (λ (o : Bool). bit o) (d .due .ensures) in
     let turn = row-turn (a .part) (a .m) (a .a) (l .loop .j) (t .loop-test .taken) ∙ ap (λ (k : ℕ). k ∷ rest) (sym one) in (
       omega (arith, t .loop-test .taken),
-      omega (arith, p .put-entry .ensures .next, l .loop .inv .1),
-      owes-part (l .loop .inv .2) turn (p .put-entry .ensures),
+      omega (arith, p .put-byte .ensures .next, l .loop .inv .1),
+      owes-part (l .loop .inv .2) turn (p .put-byte .ensures),
     )
 
 same-length : tie.Need-same-length Inv-loop μ-loop
@@ -86,7 +86,7 @@ put-row-spec =
     loop-holds
     due-requires
     bit-requires
-    put-entry-requires
+    put-byte-requires
     add-j
     loop-less
     loop-again

@@ -21,8 +21,8 @@ abbrev μ-loop : tie.MeasureT-loop
 loop-holds : tie.Need-loop-holds Inv-loop μ-loop
 loop-holds c = (omega arith, omega arith, rw sub-zero owes-all)
 
-put-entry-requires : tie.Need-put-entry-requires Inv-loop μ-loop
-put-entry-requires c κs = search needs
+put-byte-requires : tie.Need-put-byte-requires Inv-loop μ-loop
+put-byte-requires c κs = search needs
 
 add-i : tie.Need-add-i Inv-loop μ-loop
 add-i c = search needs
@@ -37,8 +37,8 @@ loop-again c =
     let l = t .before in
     let a = l .before .before .args in (
       omega arith,
-      omega (arith, p .put-entry .ensures .next, l .loop .inv),
-      owes-part (l .loop .inv .2) (zeros-turn (a .count) (l .loop .i) (t .loop-test .taken)) (p .put-entry .ensures),
+      omega (arith, p .put-byte .ensures .next, l .loop .inv),
+      owes-part (l .loop .inv .2) (zeros-turn (a .count) (l .loop .i) (t .loop-test .taken)) (p .put-byte .ensures),
     )
 
 same-length : tie.Need-same-length Inv-loop μ-loop
@@ -57,7 +57,7 @@ put-zeros-spec =
     Inv-loop
     μ-loop
     loop-holds
-    put-entry-requires
+    put-byte-requires
     add-i
     loop-less
     loop-again

@@ -15,8 +15,8 @@ put-word-requires c κs = search needs
 put-word-requires-2 : tie.Need-put-word-requires-2
 put-word-requires-2 c κs = search needs
 
-put-sizes-requires : tie.Need-put-sizes-requires
-put-sizes-requires c κs = search needs
+put-words-requires : tie.Need-put-words-requires
+put-words-requires c κs = search needs
 
 read-pairs-requires : tie.Need-read-pairs-requires
 read-pairs-requires c κs = search needs
@@ -29,8 +29,8 @@ returns c =
     let z = c .before .before .before .before .before .before in
     let a = z .before .before .before .before .before .before .before .before .before .before .before .before .before .args in
     all-words (pairsAt (a .text .now) (a .sizes .now) (a .p) (a .from)) (length (a .sizes .now)) (a .p) (a .sizes .now) (a .table .now)
-    (z .before .before .before .before .before .before .before .before .put-word .ensures) (z .before .before .before .before .put-word2 .ensures)
-    (z .put-sizes .ensures) (c .before .before .read-pairs .ensures)
+    (z .before .before .before .before .before .before .before .before .put-word .ensures .list) (z .before .before .before .before .put-word2 .ensures .list)
+    (z .put-words .ensures) (c .before .before .read-pairs .ensures)
 
 pub fill-spec : {M : Type 1} → statement M
 fill-spec =
@@ -39,7 +39,7 @@ fill-spec =
     cast-n
     put-word-requires
     put-word-requires-2
-    put-sizes-requires
+    put-words-requires
     read-pairs-requires
     same-length
     returns)

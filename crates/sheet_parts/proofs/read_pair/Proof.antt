@@ -48,7 +48,7 @@ returns-2 c =
     let a = f .before .before .before .before .args in
     no-second (a .text .now) (a .sizes .now) (a .at) (a .word) (a .table .now)
     (sym (f .first-line .ensures) ∙ c .before .before .before .before .before .before .before .before .first .given .1)
-    (c .before .before .before .before .before .put-word .ensures)
+    (c .before .before .before .before .before .put-word .ensures .list)
     (sym (c .before .before .second-line .ensures) ∙ c .enum-told2 .given .1)
 
 put-word-requires-2 : tie.Need-put-word-requires-2
@@ -76,9 +76,9 @@ returns-3 c =
     let a = f .before .before .before .before .args in
     no-weight (a .text .now) (a .sizes .now) (a .at) (a .word) (a .table .now)
     (sym (f .first-line .ensures) ∙ g .before .before .before .before .before .before .first .given .1)
-    (g .before .before .before .put-word .ensures)
+    (g .before .before .before .put-word .ensures .list)
     (sym (g .second-line .ensures) ∙ c .before .before .before .before .before .before .before .before .second .given .1)
-    (c .before .before .before .before .before .put-word2 .ensures)
+    (c .before .before .before .before .before .put-word2 .ensures .list)
     (sym (c .before .before .weight-line .ensures) ∙ c .enum-told3 .given .1)
 
 put-word-requires-3 : tie.Need-put-word-requires-3
@@ -138,11 +138,11 @@ returns-4 c =
     let a = f .before .before .before .before .args in
     pair-rows (a .text .now) (a .sizes .now) (a .at) (a .word) (a .table .now)
     (sym (f .first-line .ensures) ∙ g .before .before .before .before .before .before .first .given .1)
-    (g .before .before .before .put-word .ensures)
+    (g .before .before .before .put-word .ensures .list)
     (sym (g .second-line .ensures) ∙ w .before .before .before .before .before .before .second .given .1)
-    (w .before .before .before .put-word2 .ensures)
+    (w .before .before .before .put-word2 .ensures .list)
     (sym (w .weight-line .ensures) ∙ c .before .before .before .before .before .before .before .before .before .before .before .weight .given .1)
-    (c .before .before .before .before .before .before .before .before .put-word3 .ensures)
+    (c .before .before .before .before .before .before .before .before .put-word3 .ensures .list)
     (rw (c .before .before .before .before .before .size-of .ensures, c .before .before .before .before .size-of2 .ensures) at
     (c .before .before .read-rows .ensures))
 

@@ -58,7 +58,7 @@ loop-again c =
     let v = c .before .before .before .before .before .v .given in
     let e = sym (c .before .before .before .before .before .before .before .allow-line .ensures) ∙ v .1 in
     let far = row-moves (a .text .now) (a .m) _ _ _ e in
-    rest-next (l .loop .inv) (omega arith) (filed-one _ e (c .before .before .put-word .ensures)) (omega (arith, l .loop .inv .pace)) (far .1)
+    rest-next (l .loop .inv) (omega arith) (filed-one _ e (c .before .before .put-word .ensures .list)) (omega (arith, l .loop .inv .pace)) (far .1)
 
 same-length-2 : tie.Need-same-length-2 Inv-loop μ-loop
 same-length-2 c = c .before .loop .inv .long

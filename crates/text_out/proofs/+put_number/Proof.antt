@@ -9,7 +9,7 @@ use borrow.Fn.PlainCycle.{Measures, is, falls, and}
 use Rattle.text_out.proofs.put_number.Reads as put-number
 use Rattle.text_out.proofs.put_number.Kinds as put-number-kinds
 use Rattle.text_out.proofs.+put_number.Lts-put_number as put-number-lts
-use Rattle.text_out.proofs.put_byte.Reads as put-byte-reads
+use Rattle.stores.proofs.put_byte.Reads as put-byte-reads
 use Rattle.text_out.proofs.+put_number.{statement}
 use Rattle.text_out.proofs.+put_number.Tie.{close}
 

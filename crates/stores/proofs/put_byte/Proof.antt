@@ -1,8 +1,8 @@
 -- Within the slice the byte is set, past its end nothing is.
 use Rattle.lists.proofs.Stores.{wrote-out}
 use borrow.Author.Needs.{needs}
-use Rattle.text_out.proofs.put_byte.Statement.{statement}
-use Rattle.text_out.proofs.put_byte.Tie as tie
+use Rattle.stores.proofs.put_byte.Statement.{statement}
+use Rattle.stores.proofs.put_byte.Tie as tie
 
 slice-write-out : tie.Need-slice-write-out
 slice-write-out c = search needs

@@ -1,11 +1,11 @@
 -- The refusal's number between the two keys, and its place up to the line feed.
 use Rattle.lists.proofs.Stores.{wrote-append}
-use Rattle.answer_out.proofs.Answer.{length-refused, short-refused}
-use Rattle.answer_out.specs.Answer.{refusedLine}
+use Rattle.refusal_out.proofs.Refused.{length-refused, short-refused}
+use Rattle.refusal_out.specs.Refused.{refusedLine}
 use native.Mathlib.Omega.{arith}
 use borrow.Author.Needs.{needs}
-use Rattle.answer_out.proofs.put_refused.Statement.{statement}
-use Rattle.answer_out.proofs.put_refused.Tie as tie
+use Rattle.refusal_out.proofs.put_refused.Statement.{statement}
+use Rattle.refusal_out.proofs.put_refused.Tie as tie
 
 number-requires : tie.Need-number-requires
 number-requires c κs = search needs
@@ -34,11 +34,11 @@ put-number-requires c κs =
     let short = short-refused f (omega (arith, p .place .ok, p .place .ensures)) in
     rw (n .number .ensures) (omega (arith, length-refused f, short, one .put-bytes .ensures .next))
 
-slice-aggregate-put-long-line : tie.Need-slice-aggregate-put-long-line
-slice-aggregate-put-long-line c = search needs
+slice-aggregate-put-line : tie.Need-slice-aggregate-put-line
+slice-aggregate-put-line c = search needs
 
-put-long-line-requires : tie.Need-put-long-line-requires
-put-long-line-requires c κs =
+put-line-requires : tie.Need-put-line-requires
+put-line-requires c κs =
     let two = c .before .before .before .before in
     let one = two .before .before .before .before in
     let p = one .before .before .before in
@@ -65,7 +65,7 @@ returns c =
     let p = one .before .before .before in
     let n = p .before in
     wrote-append (one .put-bytes .ensures)
-    (wrote-append (rw (n .number .ensures) at (two .put-number .ensures)) (rw (p .place .ensures) at (c .before .before .put-long-line .ensures)))
+    (wrote-append (rw (n .number .ensures) at (two .put-number .ensures)) (rw (p .place .ensures) at (c .before .before .put-line .ensures)))
 
 pub put-refused-spec : {M : Type 1} → statement M
 put-refused-spec =
@@ -77,7 +77,7 @@ put-refused-spec =
     slice-aggregate-put-bytes
     put-bytes-requires
     put-number-requires
-    slice-aggregate-put-long-line
-    put-long-line-requires
+    slice-aggregate-put-line
+    put-line-requires
     same-length
     returns)
