@@ -10,11 +10,27 @@ mod clauses;
 
 ghost use Prim.Native.Nat.{_<_};
 
+// The largest table has 4930 words.
+fn has_plain_room(case: &[u32]) -> bool {
+    if head::fits(case, head::TABLE, 5120) {
+        return head::fits(case, head::TEXT, 131072);
+    }
+    false
+}
+
 fn has_scratch(case: &[u32]) -> bool {
     if head::fits(case, head::FIRST, 2048) {
         return head::fits(case, head::SECOND, 2048);
     }
     false
+}
+
+// Whether there is room for what the entry point is lent; clauses and their text, from 10 on, are judged where they are made.
+fn has_room(case: &[u32]) -> bool {
+    if head::number(case, head::ENTRY) < 10 {
+        return has_plain_room(case);
+    }
+    has_scratch(case)
 }
 
 // Entry points 10 and 11; with another number none is called.
@@ -29,11 +45,20 @@ fn show_clauses(case: &[u32], words: &[u32]) {
     }
 }
 
-fn show(case: &[u32], words: &[u32], plan: &[u32], bytes: &[u8]) {
-    if head::number(case, head::ENTRY) < 10 {
+fn show_in_room(case: &[u32], words: &[u32], plan: &[u32], bytes: &[u8]) {
+    let entry = head::number(case, head::ENTRY);
+    if entry < 9 {
         calls_plans::show(case, words, plan, bytes);
-    } else if has_scratch(case) {
+    } else if entry == 9 {
+        calls_list::show(case, bytes);
+    } else {
         show_clauses(case, words);
+    }
+}
+
+fn show(case: &[u32], words: &[u32], plan: &[u32], bytes: &[u8]) {
+    if has_room(case) {
+        show_in_room(case, words, plan, bytes);
     } else {
         answer::say(answer::not_called());
     }

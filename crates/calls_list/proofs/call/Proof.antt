@@ -2,8 +2,8 @@
 use lib.Seq.{length-take-le}
 use mathlib.Core.Path.{sym}
 use borrow.Author.Needs.{needs}
-use Rattle.calls_plans.proofs.list.call.Statement.{statement}
-use Rattle.calls_plans.proofs.list.call.Tie as tie
+use Rattle.calls_list.proofs.call.Statement.{statement}
+use Rattle.calls_list.proofs.call.Tie as tie
 
 cut-requires : tie.Need-cut-requires
 cut-requires c κs = search needs

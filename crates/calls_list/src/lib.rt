@@ -1,4 +1,4 @@
-// The sheet with its list line: room for a table and for a list.
+// The entry point of the program calls that reads a sheet with its list line: room for a table and for a list.
 use calls_case::answer;
 use calls_case::answer::Answer;
 use calls_case::head;
