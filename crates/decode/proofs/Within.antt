@@ -11,9 +11,9 @@ use Rattle.lists.proofs.Firsts.{unless-none, then-none}
 use Rattle.refusal.specs.declared.Refusal.{Refusal}
 use Rattle.refusal.specs.declared.Refusal.the-variants.{Room, Length}
 use Rattle.decoder.specs.Answers.{roomFault}
-use Rattle.list_in.specs.declared.ReadList.{ReadList}
-use Rattle.list_in.specs.Listed.{Listed, listed, faulty}
-use Rattle.list_in.specs.Answers.{wanted, fault, readWith, readOf}
+use Rattle.list_store.specs.declared.ReadList.{ReadList}
+use Rattle.list_store.specs.Listed.{Listed, listed, faulty}
+use Rattle.list_store.specs.Answers.{wanted, fault, readWith, readOf}
 
 fits : (n room : ℕ) → roomFault n room ≡ none → n ≤ room
 fits n room e = leb-true _ _ (unless-none (leb n room) (Room n) e)

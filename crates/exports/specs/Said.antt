@@ -14,7 +14,8 @@ use Rattle.encoder.specs.Encoded.{verdict, encodedOf, encodedSays, Outcomes}
 use Rattle.decoder.specs.Answers.{decodedOf, decodedSays, madeOf, madeSays}
 use Rattle.sheet_in.specs.Parsed.{parsed, readOf, readSays}
 use Rattle.sheet_out.specs.Written as sheets
-use Rattle.list_in.specs.Answers as lists
+use Rattle.list_in.specs.Listed.{over}
+use Rattle.list_store.specs.Answers as lists
 use Rattle.wcnf_out.specs.Written as texts
 use Rattle.codes.specs.Codes.{Told}
 
@@ -50,7 +51,7 @@ abbrev pub writeSheetSays : List ℕ → ℕ → ℕ → (room : ℕ) → Says
 writeSheetSays ws hard side room = sheets.writtenSays (sheets.writtenOf (sheets.sheetOf ws hard side) room)
 
 abbrev pub readListSays : List ℕ → (tableRoom listRoom : ℕ) → Says
-readListSays text tableRoom listRoom = lists.readSays (lists.readOf (lists.over text) tableRoom listRoom)
+readListSays text tableRoom listRoom = lists.readSays (lists.readOf (over text) tableRoom listRoom)
 
 -- the judgement of the writer of WCNF text, its lent buffers included
 abbrev pub wcnfJudged : List ℕ → ℕ → ℕ → (first second : List ℤ) → (text : List ℕ) → Verdict

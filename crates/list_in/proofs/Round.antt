@@ -32,9 +32,10 @@ use Rattle.list_scan.specs.ListLines.{listText, lineFound, lineStart}
 use Rattle.list_entries.specs.Entries.{entriesOf}
 use Rattle.list_scan.proofs.ListLines.{entries-were}
 use Rattle.list_scan.proofs.Written.{Bits, written-found, written-taken, entries-bits, found-written}
-use Rattle.list_in.specs.declared.ReadList.{ReadList}
-use Rattle.list_in.specs.Listed.{Listed, listed, faulty, onLine, onTop, firstFault, splitAt}
-use Rattle.list_in.specs.Answers.{wanted, fault, readWith, readOf, tableAfter, listAfter, over}
+use Rattle.list_store.specs.declared.ReadList.{ReadList}
+use Rattle.list_store.specs.Listed.{Listed, listed, faulty}
+use Rattle.list_store.specs.Answers.{wanted, fault, readWith, readOf, tableAfter, listAfter}
+use Rattle.list_in.specs.Listed.{onLine, onTop, firstFault, splitAt, over}
 use Rattle.list_in.proofs.LineCount.{sheet-ends}
 
 -- ---- what is written is read

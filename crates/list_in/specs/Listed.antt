@@ -9,11 +9,7 @@ use Rattle.list_scan.specs.ListLines.{lineFound, lineStart}
 use Rattle.list_entries.specs.Entries.{entriesOf}
 use Rattle.sheet_in.specs.Parsed as sheets
 use Rattle.sheet_in.specs.Parsed.{Parsed, sheet, parsed}
-
--- the two choices, the words of the table and the entries of the list; or the faulty line
-pub data Listed : Type 0 where
-  listed : (hard side : ℕ) → (words list : List ℕ) → Listed
-  faulty : ℕ → Listed
+use Rattle.list_store.specs.Listed.{Listed, listed, faulty}
 
 -- a sheet has two lines and one for each word: the list line is the next, and what follows that the one after
 unfoldable pub onLine : ListLine → ℕ → ℕ → List ℕ → List ℕ → Listed
@@ -34,3 +30,7 @@ firstFault (sheets.faulty l) = l
 -- the text in two at line l
 unfoldable pub splitAt : ℕ → List ℕ → Listed
 splitAt l s = onTop (parsed (take (lineStart l s) s)) l (drop (lineStart l s) s)
+
+-- what a text holds
+abbrev pub over : List ℕ → Listed
+over s = splitAt (firstFault (parsed s)) s

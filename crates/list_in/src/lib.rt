@@ -1,67 +1,16 @@
 // Reads what `decode` is given: a house sheet and one more line, the list. The sheet is judged first, from the top, and then the list line; the
 // table is read into local words, since how long the list has to be follows from it, and a refusal writes nothing.
-use clause::Picked;
 use list_scan::ListLine;
+pub use list_store::ReadList;
 use refusal::Refusal;
 use sheet_in::ReadSheet;
 ghost use mathlib.Core.Path.{_≡_};
 ghost use Prim.Native.Nat.{_≤_};
-ghost use lib.ListN.{length, drop, set};
-ghost use lib.Seq.{sets};
+ghost use lib.ListN.{length, drop};
 ghost use Rattle.table.specs.Words.{Accepted};
 ghost use Rattle.sheet_in.specs.Parsed.{parsed, sheet};
-ghost use Rattle.list_entries.specs.Entries.{entriesOf};
-ghost use Rattle.list_in.specs.Listed.{firstFault, onTop, listed};
-ghost use Rattle.list_in.specs.Answers.{wanted, Answered, over};
-
-// The hard part's and the side's number, how many words the table has and how many entries the list, or the refusal.
-pub enum ReadList {
-    Read(u32, u32, usize, usize),
-    Refused(Refusal),
-}
-
-// How many entries a list of this table has.
-fn wanted(words: &[u32], hard: u32, side: u32) -> usize
-    requires { ⌜ Accepted (now words) ⌝ }
-    ensures { λ r. ⌜ r ≡ wanted hard side (now (words .entry)) ⌝ }
-{
-    let Picked::Known(e) = clause::pick(hard, side) else {
-        return 0;
-    };
-    let part = e.hard;
-    let pair_side = e.side;
-    list_judge::variables(words, part, pair_side)
-}
-
-// A list of these characters for the table of these words: 10, then 9. Both are stored when nothing is left to judge.
-fn store(
-    hard: u32,
-    side: u32,
-    words: &[u32],
-    characters: &[u8],
-    table: &mut [u32],
-    list: &mut [u8],
-) -> ReadList
-    requires { ⌜ Accepted (now words) ⌝ }
-    ensures { λ r. ⌜ Answered (listed hard side (now (words .entry)) (entriesOf (now (characters .entry))))
-        (now (table .entry)) (now (list .entry)) r (now (table .exit)) (now (list .exit)) ⌝ }
-{
-    let n = words.len();
-    let m = characters.len();
-    let due = wanted(words, hard, side);
-    if m != due {
-        return ReadList::Refused(Refusal::Length(due));
-    }
-    if list.len() < m {
-        return ReadList::Refused(Refusal::Room(m));
-    }
-    if table.len() < n {
-        return ReadList::Refused(Refusal::Room(n));
-    }
-    stores::put_words(table, 0, words);
-    list_entries::put_list(list, characters);
-    ReadList::Read(hard, side, n, m)
-}
+ghost use Rattle.list_store.specs.Answers.{Answered};
+ghost use Rattle.list_in.specs.Listed.{firstFault, onTop, over};
 
 // What stands at `at`, below a sheet of these words and choices. The sheet has a line for each word and two for the choices.
 fn below(
@@ -87,7 +36,7 @@ fn below(
         ListLine::Entries(m) => {
             let from = at + 5;
             let to = from + m;
-            store(hard, side, words, &text[from..to], table, list)
+            list_store::store(hard, side, words, &text[from..to], table, list)
         }
     }
 }

@@ -7,6 +7,7 @@ use Rattle.sheet_parts.proofs as sheet-parts
 use Rattle.sheet_in.proofs as sheet-in
 use Rattle.sheet_out.proofs as sheet-out
 use Rattle.list_in.proofs as list-in
+use Rattle.list_store.proofs as list-store
 
 pub sheet-put-hard-decided : Decided sheet.put_hard.ended sheet.put_hard.Reads.Post
 sheet-put-hard-decided = decided λ _ _ _ _ p q. search same
@@ -70,6 +71,9 @@ sheet-in-read-sheet-decided = decided λ _ _ _ _ p q. search same
 
 pub sheet-out-write-sheet-decided : Decided sheet-out.write_sheet.ended sheet-out.write_sheet.Reads.Post
 sheet-out-write-sheet-decided = decided λ _ _ _ _ p q. search same
+
+pub list-store-store-decided : Decided list-store.store.ended list-store.store.Reads.Post
+list-store-store-decided = decided λ _ _ _ _ p q. search same
 
 pub list-in-read-list-decided : Decided list-in.read_list.ended list-in.read_list.Reads.Post
 list-in-read-list-decided = decided λ _ _ _ _ p q. search same

@@ -1,6 +1,6 @@
 -- What was read lies in the table and in the list.
 use Rattle.decode.proofs.Within.{read-most}
-use Rattle.list_in.specs.Answers.{over}
+use Rattle.list_in.specs.Listed.{over}
 use lib.Seq.{length-take-le}
 use mathlib.Core.Path.{sym, _∙_}
 use native.Mathlib.Omega.{arith}

@@ -1,5 +1,5 @@
 -- The answer is taken apart, and either way what it says is known.
-use Rattle.list_in.specs.Answers.{readSays}
+use Rattle.list_store.specs.Answers.{readSays}
 use Rattle.exports.proofs.Told.{told-refused, told-given}
 use mathlib.Core.Path.{refl, sym, ap, _∙_}
 use borrow.Author.Needs.{needs}

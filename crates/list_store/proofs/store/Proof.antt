@@ -1,12 +1,12 @@
 -- Each exit is one way that a list is judged; then both are stored.
-use Rattle.list_in.proofs.Answers.{other-length, list-short, table-short, both-fit}
+use Rattle.list_store.proofs.Answers.{other-length, list-short, table-short, both-fit}
 use Rattle.list_entries.specs.Entries.{entriesOf}
 use Rattle.list_entries.proofs.Entries.{length-entries}
 use mathlib.Core.Path.{refl}
 use native.Mathlib.Omega.{arith}
 use borrow.Author.Needs.{needs}
-use Rattle.list_in.proofs.store.Statement.{statement}
-use Rattle.list_in.proofs.store.Tie as tie
+use Rattle.list_store.proofs.store.Statement.{statement}
+use Rattle.list_store.proofs.store.Tie as tie
 
 wanted-requires : tie.Need-wanted-requires
 wanted-requires c κs = search needs

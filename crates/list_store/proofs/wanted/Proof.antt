@@ -1,9 +1,9 @@
 -- By the encoding of the two numbers.
-use Rattle.list_in.specs.Answers.{wanted}
+use Rattle.list_store.specs.Answers.{wanted}
 use mathlib.Core.Path.{sym, _∙_}
 use borrow.Author.Needs.{needs}
-use Rattle.list_in.proofs.wanted.Statement.{statement}
-use Rattle.list_in.proofs.wanted.Tie as tie
+use Rattle.list_store.proofs.wanted.Statement.{statement}
+use Rattle.list_store.proofs.wanted.Tie as tie
 
 pick-requires : tie.Need-pick-requires
 pick-requires c κs = search needs

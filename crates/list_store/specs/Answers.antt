@@ -16,9 +16,8 @@ use Rattle.clause.specs.declared.Picked.the-variants.{Known, Unknown}
 use Rattle.clause.specs.Encodings.{pickedOf}
 use Rattle.clause.specs.Numbers.{variables}
 use Rattle.decoder.specs.Answers.{roomFault, bufferWith}
-use Rattle.sheet_in.specs.Parsed.{parsed}
-use Rattle.list_in.specs.declared.ReadList.{ReadList}
-use Rattle.list_in.specs.Listed.{Listed, listed, faulty, firstFault, splitAt}
+use Rattle.list_store.specs.declared.ReadList.{ReadList}
+use Rattle.list_store.specs.Listed.{Listed, listed, faulty}
 
 abbrev pub entriesDue : Picked → Table → ℕ
 entriesDue (Known e) t = variables t (e .hard) (e .side)
@@ -52,10 +51,6 @@ tableAfter (listed hard side ws l) table list = bufferWith (fault hard side ws l
 abbrev pub listAfter : Listed → (table list : List ℕ) → List ℕ
 listAfter (faulty k) table list = list
 listAfter (listed hard side ws l) table list = bufferWith (fault hard side ws l (length table) (length list)) list l
-
--- what a text holds
-abbrev pub over : List ℕ → Listed
-over s = splitAt (firstFault (parsed s)) s
 
 -- the answer r and both buffers after, of a text that holds x
 pub record Answered (x : Listed) (table list : List ℕ) (r : ReadList) (table′ list′ : List ℕ) : Type 0 where
