@@ -12,9 +12,6 @@ use Rattle.clauses_out.proofs as clauses-out
 use Rattle.room.proofs as room
 use Rattle.encoder.proofs as encoder
 
-pub totals-weight-as-sum-decided : Decided totals.weight_as_sum.ended totals.weight_as_sum.Reads.Post
-totals-weight-as-sum-decided = decided λ _ _ _ _ p q. search same
-
 pub totals-top-of-decided : Decided totals.top_of.ended totals.top_of.Reads.Post
 totals-top-of-decided = decided λ _ _ _ _ p q. search same
 

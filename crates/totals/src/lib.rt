@@ -13,13 +13,6 @@ ghost use Rattle.clause.specs.List.{hardPart, softPart};
 ghost use Rattle.clause.specs.Lengths.{top};
 ghost use Rattle.hard.specs.Tallies.{tallyOf};
 
-// A weight as the sums and the weights of the clauses have it.
-pub fn weight_as_sum(weight: u32) -> u64
-    ensures { λ r. ⌜ r ≡ weight ⌝ }
-{
-    weight as u64
-}
-
 // 1 plus the sum of the weights of all pairs.
 pub fn top_of(words: &[u32], counts: Counts) -> u64
     requires { ⌜ Counted (now words) counts ⌝ }
@@ -31,7 +24,7 @@ pub fn top_of(words: &[u32], counts: Counts) -> u64
     let mut k = 0;
     while k < p {
         let pair = reader::pair_at(words, at);
-        sum += weight_as_sum(pair.weight);
+        sum += lists::wide(pair.weight) as u64;
         at = pair.next;
         k += 1;
     }

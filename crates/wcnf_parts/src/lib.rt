@@ -76,5 +76,5 @@ pub fn put_pair(
 {
     let long = soft::put_pair(words, side, switch, pair, first, second, clauses, 0);
     let head = reader::pair_at(words, pair);
-    wcnf::put_clauses(text, at, totals::weight_as_sum(head.weight), clauses, long)
+    wcnf::put_clauses(text, at, lists::wide(head.weight) as u64, clauses, long)
 }

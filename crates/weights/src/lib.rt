@@ -36,12 +36,7 @@ fn weigh_pair(words: &[u32], side: Side, at: usize, out: &mut [u64], cursor: usi
 {
     let tally = pairs::pair_tally(words, side, at);
     let pair = reader::pair_at(words, at);
-    fills::put_weights(
-        out,
-        cursor,
-        totals::weight_as_sum(pair.weight),
-        tally.clauses,
-    )
+    fills::put_weights(out, cursor, lists::wide(pair.weight) as u64, tally.clauses)
 }
 
 // The weights of the soft part, pair by pair; with either hard part alike.

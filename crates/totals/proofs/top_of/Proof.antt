@@ -48,8 +48,8 @@ pair-at-requires c κs =
     let s = l .before .before .before in
     ahead-turn (s .args .words .now) (s .args .counts .pairs) (l .loop .k) (l .loop .at) (c .loop-test .taken) (l .loop .inv .2) .0
 
-weight-as-sum-requires : tie.Need-weight-as-sum-requires Inv-loop μ-loop
-weight-as-sum-requires c κs = search needs
+wide-requires : tie.Need-wide-requires Inv-loop μ-loop
+wide-requires c κs = search needs
 
 add-sum : tie.Need-add-sum Inv-loop μ-loop
 add-sum c =
@@ -60,7 +60,7 @@ add-sum c =
     let turn = ahead-turn ws (s .args .counts .pairs) (l .loop .k) (l .loop .at) (t .loop-test .taken) (l .loop .inv .2) in
     let light = weight-light ws (l .loop .at) (turn .0) in
     let weight = ap (λ (h : PairHead). h .weight) (c .before .pair-at .ensures) in
-    omega (arith, light, weight, c .weight-as-sum .ensures, l .loop .inv .1, l .loop .inv .4, t .loop-test .taken)
+    omega (arith, light, weight, c .wide .ensures, l .loop .inv .1, l .loop .inv .4, t .loop-test .taken)
 
 add-k : tie.Need-add-k Inv-loop μ-loop
 add-k c = search needs
@@ -82,8 +82,8 @@ loop-again c =
       omega (arith, t .loop-test .taken),
       l .loop .inv .1,
       rw next (turn .1),
-      rw next (omega (arith, owed, weight, c .weight-as-sum .ensures, l .loop .inv .3)),
-      omega (arith, light, weight, c .weight-as-sum .ensures, l .loop .inv .4),
+      rw next (omega (arith, owed, weight, c .wide .ensures, l .loop .inv .3)),
+      omega (arith, light, weight, c .wide .ensures, l .loop .inv .4),
     )
 
 returns : tie.Need-returns Inv-loop μ-loop
@@ -101,7 +101,7 @@ top-of-spec =
     add-at
     loop-holds
     pair-at-requires
-    weight-as-sum-requires
+    wide-requires
     add-sum
     add-k
     loop-less

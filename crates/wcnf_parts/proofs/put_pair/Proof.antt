@@ -23,8 +23,8 @@ put-pair-requires c κs =
 pair-at-requires : tie.Need-pair-at-requires
 pair-at-requires c κs = c .before .before .before .before .before .before .before .before .before .pre .1
 
-weight-as-sum-requires : tie.Need-weight-as-sum-requires
-weight-as-sum-requires c κs = search needs
+wide-requires : tie.Need-wide-requires
+wide-requires c κs = search needs
 
 put-clauses-requires : tie.Need-put-clauses-requires
 put-clauses-requires c κs =
@@ -60,7 +60,7 @@ returns c =
     let cs = soft (s .args .side) (tableOf ws) (plus v ∷ []) (minus v ∷ []) p in
     let short = pair-short (s .args .side) ws (s .args .pair) v (s .pre .0) (s .pre .1) in
     let named = soft-named (s .args .side) (tableOf ws) (plus v ∷ []) (minus v ∷ []) p (s .pre .2, tt) (s .pre .2, tt) in
-    let e = w .weight-as-sum .ensures ∙ ap (λ (g : PairHead). g .weight) (h .pair-at .ensures) in
+    let e = w .wide .ensures ∙ ap (λ (g : PairHead). g .weight) (h .pair-at .ensures) in
     let put = rw e at (c .before .before .put-clauses .ensures) in (
       printed cs short (d .put-pair .ensures .0) (s .pre .6) (p .weight) named (put .0),
       d .put-pair .ensures .1,
@@ -75,7 +75,7 @@ put-pair-spec =
     (tie.spec
     put-pair-requires
     pair-at-requires
-    weight-as-sum-requires
+    wide-requires
     put-clauses-requires
     same-length
     same-length-2

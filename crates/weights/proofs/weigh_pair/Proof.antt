@@ -13,8 +13,8 @@ pair-tally-requires c κs = search needs
 pair-at-requires : tie.Need-pair-at-requires
 pair-at-requires c κs = search needs
 
-weight-as-sum-requires : tie.Need-weight-as-sum-requires
-weight-as-sum-requires c κs = search needs
+wide-requires : tie.Need-wide-requires
+wide-requires c κs = search needs
 
 put-weights-requires : tie.Need-put-weights-requires
 put-weights-requires c κs =
@@ -26,7 +26,7 @@ same-length c = search needs
 returns : tie.Need-returns
 returns c =
     let n = ap (λ (t : Tally). t .clauses) (c .before .before .before .before .before .before .pair-tally .ensures) in
-    let w = c .before .before .before .weight-as-sum .ensures
+    let w = c .before .before .before .wide .ensures
     ∙ ap (λ (h : PairHead). h .weight) (c .before .before .before .before .before .pair-at .ensures) in
     rw (n, w) at (c .before .before .put-weights .ensures)
 
@@ -36,7 +36,7 @@ weigh-pair-spec =
     (tie.spec
     pair-tally-requires
     pair-at-requires
-    weight-as-sum-requires
+    wide-requires
     put-weights-requires
     same-length
     returns)
