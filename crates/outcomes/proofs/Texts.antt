@@ -6,6 +6,7 @@ use Rattle.scan.proofs as scan
 use Rattle.row_scan.proofs as row-scan
 use Rattle.answer_out.proofs as answer-out
 use Rattle.refusal_out.proofs as refusal-out
+use Rattle.row_out.proofs as row-out
 use Rattle.stores.proofs as stores
 use Rattle.list_entries.proofs as list-entries
 use Rattle.list_scan.proofs as list-scan
@@ -33,8 +34,8 @@ text-out-put-number-decided = decided λ _ _ _ _ p q. search same
 pub text-out-put-line-decided : Decided text-out.put_line.ended text-out.put_line.Reads.Post
 text-out-put-line-decided = decided λ _ _ _ _ p q. search same
 
-pub text-out-put-row-decided : Decided text-out.put_row.ended text-out.put_row.Reads.Post
-text-out-put-row-decided = decided λ _ _ _ _ p q. search same
+pub row-out-put-row-decided : Decided row-out.put_row.ended row-out.put_row.Reads.Post
+row-out-put-row-decided = decided λ _ _ _ _ p q. search same
 
 pub scan-starts-decided : Decided scan.starts.ended scan.starts.Reads.Post
 scan-starts-decided = decided λ _ _ _ _ p q. search same

@@ -67,5 +67,5 @@ pub fn put_allow(out: &mut [u8], at: usize, m: u32, mask: u32) -> usize
     requires { ⌜ at + length (rowOf allowKey m mask) < 2 ^ 64 ⌝ }
     ensures { λ r. ⌜ Wrote (now (out .entry)) at (rowOf allowKey m mask) r (now (out .exit)) ⌝ }
 {
-    text_out::put_row(out, at, b"allow=", m, mask)
+    row_out::put_row(out, at, b"allow=", m, mask)
 }

@@ -1,11 +1,11 @@
 -- The key, the characters and the line feed are put after each other.
 use Rattle.lists.proofs.Stores.{wrote-append}
 use Rattle.text_out.proofs.Texts.{length-row, length-bits}
 use Rattle.text_out.specs.Texts.{rowOf}
 use native.Mathlib.Omega.{arith}
 use borrow.Author.Needs.{needs}
-use Rattle.text_out.proofs.put_row.Statement.{statement}
-use Rattle.text_out.proofs.put_row.Tie as tie
+use Rattle.row_out.proofs.put_row.Statement.{statement}
+use Rattle.row_out.proofs.put_row.Tie as tie
 
 put-bytes-requires : tie.Need-put-bytes-requires
 put-bytes-requires c κs = let a = c .before .before .before .args in omega (arith, length-row (a .key .now) (a .m) (a .mask))

@@ -1,12 +1,12 @@
 -- The characters of the values that are left are still owed.
 use Rattle.text_out.proofs.Texts.{bits-none, bits-step, length-bits}
 use Rattle.text_out.specs.Texts.{bitsOf}
 use Rattle.lists.proofs.Stores.{owes-all, owes-part, owes-none}
 use Rattle.lists.specs.Stores.{Owes}
 use native.Mathlib.Nat.{mod-lt}
 use native.Mathlib.Omega.{arith}
-use Rattle.text_out.proofs.put_bits.Statement.{statement}
-use Rattle.text_out.proofs.put_bits.Tie as tie
+use Rattle.row_out.proofs.put_bits.Statement.{statement}
+use Rattle.row_out.proofs.put_bits.Tie as tie
 
 abbrev Inv-loop : tie.InvT-loop
 Inv-loop out₀ from m mask left₀ rest₀ at₀ out left rest at = Owes out₀ from (bitsOf m mask) out at (bitsOf left rest)
