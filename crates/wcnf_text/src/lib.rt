@@ -110,13 +110,12 @@ pub fn put_text(
 {
     let part = e.hard;
     let side = e.side;
-    let top = needed.top;
     let n = lists::word(words, 0);
     let mut clauses = [0i32; 1024];
     let variables = needed.variables as u64;
     let count = needed.clauses as u64;
-    let boxes = wcnf_header::put_header(text, 0, variables, count, top);
-    let pairs = put_boxes(words, n, part, top, &mut clauses, text, boxes);
+    let boxes = wcnf_header::put_header(text, 0, variables, count, needed.top);
+    let pairs = put_boxes(words, n, part, needed.top, &mut clauses, text, boxes);
     put_pairs(
         words,
         counts,
