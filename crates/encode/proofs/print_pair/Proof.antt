@@ -1,5 +1,5 @@
 -- No list of an end is longer than its scratch slice.
-use Rattle.wcnf_text.proofs.Scratch.{pair-scratch-short}
+use Rattle.wcnf_parts.proofs.Scratch.{pair-scratch-short}
 use Rattle.clause.specs.Ends.{one, two}
 use native.Mathlib.Omega.{arith}
 use borrow.Author.Needs.{needs}

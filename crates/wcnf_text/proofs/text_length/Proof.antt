@@ -1,5 +1,5 @@
 -- The scratch of this pass holds every list, and the cursor past the text is its length.
-use Rattle.wcnf_text.proofs.Scratch.{scratch-short}
+use Rattle.wcnf_parts.proofs.Scratch.{scratch-short}
 use Rattle.clause.specs.Ends.{one, two}
 use native.Mathlib.Omega.{arith}
 use borrow.Author.Needs.{needs}
