@@ -1,5 +1,5 @@
 -- Each way that a list is judged for a table, and the answer with what the buffers hold after.
-use mathlib.Core.Path.{_≡_, refl}
+use mathlib.Core.Path.{_≡_}
 use mathlib.Core.Logic.{_≢_}
 use mathlib.Core.List.{List}
 use mathlib.Core.Option.{none, some}

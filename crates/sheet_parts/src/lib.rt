@@ -3,12 +3,11 @@
 use scan::Line;
 ghost use mathlib.Core.Path.{_≡_};
 ghost use mathlib.Core.List.{_∷_, _++_};
-ghost use Prim.Native.Nat.{_+_, _^_, _≤_, _<_};
-ghost use lib.ListN.{length, set};
+ghost use Prim.Native.Nat.{_+_, _≤_};
+ghost use lib.ListN.{length};
 ghost use lib.Seq.{sets};
 ghost use Rattle.lists.specs.Lists.{nth};
 ghost use Rattle.table.specs.Table.{In};
-ghost use Rattle.lists.specs.Stores.{Wrote};
 ghost use Rattle.sheet_parts.specs.Reading.{words, valuesAt, rowsAt, pairAt, pairsAt, Filed, Sized};
 
 // Where reading goes on, in the text and in the words; or the word whose line is faulty.

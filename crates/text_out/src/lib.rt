@@ -1,5 +1,4 @@
 // Text put into a lent slice of bytes: numbers and lines, as stores puts a byte.
-ghost use mathlib.Core.List.{[], _∷_};
 ghost use Prim.Native.Nat.{_+_, _^_, _<_};
 ghost use lib.ListN.{length};
 ghost use Rattle.lists.specs.Stores.{Wrote};
