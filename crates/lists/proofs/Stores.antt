@@ -1,11 +1,12 @@
--- A run of stores: what is stored in two goes is stored as one, and what a loop still owes.
-use mathlib.Core.Path.{_≡_, refl, sym, ap, _∙_}
+-- A run of stores: what is stored in two goes is stored as one, what a loop still owes, and a slice that is copied.
+use mathlib.Core.Path.{_≡_, refl, sym, ap, subst, _∙_}
 use mathlib.Core.List.{List, [], _∷_, _++_}
 use Prim.Native.Nat.{ℕ, suc, _+_, _≤_, _<_}
 use native.Mathlib.Nat.{add-zero, add-suc, suc-add}
+use native.Mathlib.Numerals.{add-one}
 use native.Mathlib.Omega.{arith}
-use lib.ListN.{length, take, length-append}
-use lib.Seq.{sets, sets-eq, set-out, length-sets, take-at}
+use lib.ListN.{length, getD, take, drop, length-append, drop-of-length-le}
+use lib.Seq.{sets, sets-eq, set-out, length-sets, take-at, drop-cons}
 use Rattle.lists.specs.Stores.{Wrote, Owes}
 
 module _ {A : Type 0} where
@@ -26,6 +27,10 @@ module _ {A : Type 0} where
         next = omega (arith, p .next, q .next, length-append vs ws);
         list = q .list ∙ rw (p .list, p .next) (sym (sets-append vs ws a at));
       }
+
+  -- what was stored, by another name
+  pub wrote-as : {old vs ws new : List A} {at r : ℕ} → vs ≡ ws → Wrote old at vs r new → Wrote old at ws r new
+  wrote-as {old} {new = new} {at} {r} e w = subst (λ (l : List A). Wrote old at l r new) e w
 
   -- stores leave the slice as long as it was
   pub wrote-long : {old vs new : List A} {at r : ℕ} → Wrote old at vs r new → length new ≡ length old
@@ -54,6 +59,29 @@ module _ {A : Type 0} where
   pub owes-none : {old all out rest : List A} {start at : ℕ} → Owes old start all out at rest → rest ≡ [] → Wrote old start all at out
   owes-none {out = out} {at = at} o e =
       record { next = omega (arith, o .ends, ap length e); list = ap (sets out at) (sym e) ∙ o .same }
+
+  -- ---- a loop that copies
+
+  -- i entries of src stand in the slice from `from` on, and the others are owed
+  pub record Copied (old : List A) (from : ℕ) (src out : List A) (at i : ℕ) : Type 0 where
+    pub some : i ≤ length src
+    pub past : at ≡ from + i
+    pub owed : Owes old from src out at (drop i src)
+
+  pub copied-none : {old src : List A} {from : ℕ} → Copied old from src old from 0
+  copied-none = record { some = omega arith; past = omega arith; owed = owes-all }
+
+  pub copied-turn : {old src out new : List A} {from at i r : ℕ} (d : A)
+      → Copied old from src out at i → i < length src → Wrote out at (getD src i d ∷ []) r new → Copied old from src new r (i + 1)
+  copied-turn {src = src} {i = i} d c h w =
+      record {
+        some = omega arith;
+        past = omega (arith, w .next, c .past);
+        owed = owes-part (c .owed) (rw add-one (drop-cons src i d h)) w;
+      }
+
+  pub copied-all : {old src out : List A} {from at i : ℕ} → Copied old from src out at i → length src ≤ i → Wrote old from src at out
+  copied-all {src = src} {i = i} c h = owes-none (c .owed) (drop-of-length-le src {i = i} h)
 
 -- what is stored at the start of a list that has room for it, the list begins with
 pub sets-begins : {A : Type 0} (vs old : List A) (n : ℕ) → length vs ≡ n → n ≤ length old → take n (sets old 0 vs) ≡ vs

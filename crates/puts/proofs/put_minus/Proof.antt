@@ -1,10 +1,10 @@
 -- The literal handed on is the one made.
 use Rattle.puts.proofs.Entries.{neg-fits, passed}
 use Rattle.puts.specs.Signed.{neg}
-use Rattle.lists.specs.Stores.{Wrote}
+use Rattle.lists.proofs.Stores.{wrote-as}
 use lib.IntN.{ℤ}
 use mathlib.Core.List.{[], _∷_}
-use mathlib.Core.Path.{subst}
+use mathlib.Core.Path.{ap}
 use borrow.Author.Needs.{needs}
 use Rattle.puts.proofs.put_minus.Statement.{statement}
 use Rattle.puts.proofs.put_minus.Tie as tie
@@ -22,8 +22,7 @@ returns : tie.Need-returns
 returns c =
     let p = c .before in
     let a = p .before .before .before in
-    subst (λ (z : ℤ). Wrote (a .args .out .now) (a .args .at) (z ∷ []) (p .put .result) (p .put .last .0))
-    (passed (neg (a .args .v)) (neg-fits (a .args .v) (a .pre .1)) (p .before .negation .ensures)) (p .put .ensures)
+    wrote-as (ap (λ (z : ℤ). z ∷ []) (passed (neg (a .args .v)) (neg-fits (a .args .v) (a .pre .1)) (p .before .negation .ensures))) (p .put .ensures)
 
 pub put-minus-spec : {M : Type 1} → statement M
 put-minus-spec = tie.close (tie.spec negation-requires put-requires same-length returns)

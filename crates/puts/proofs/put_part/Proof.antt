@@ -1,29 +1,26 @@
 -- What is left of the part is still owed.
-use Rattle.lists.proofs.Stores.{owes-all, owes-part, owes-none}
-use Rattle.lists.specs.Stores.{Wrote, Owes}
+use Rattle.lists.proofs.Stores.{Copied, copied-none, copied-turn, copied-all, wrote-as}
 use mir.Syntax.{w32}
 use mir.ValLaws.{toZ-ofZ}
 use mir.Val.{toZ, ofZ}
 use lib.IntN.{ℤ, pos}
-use lib.Seq.{drop-cons}
-use lib.ListN.{length, getD, drop, drop-of-length-le}
-use Prim.Native.Nat.{_+_, _-_, _≤_}
+use lib.ListN.{length, getD}
+use Prim.Native.Nat.{_-_}
 use mathlib.Core.List.{[], _∷_}
-use mathlib.Core.Path.{_≡_, subst}
-use native.Mathlib.Numerals.{add-one}
+use mathlib.Core.Path.{_≡_, ap}
 use native.Mathlib.Omega.{arith}
 use borrow.Author.Needs.{needs}
 use Rattle.puts.proofs.put_part.Statement.{statement}
 use Rattle.puts.proofs.put_part.Tie as tie
 
 abbrev Inv-loop : tie.InvT-loop
-Inv-loop part out₀ from at₀ i₀ out at i = (i ≤ length part) × (at ≡ from + i) × Owes out₀ from part out at (drop i part)
+Inv-loop part out₀ from at₀ i₀ out at i = Copied out₀ from part out at i
 
 abbrev μ-loop : tie.MeasureT-loop
 μ-loop part out₀ from at₀ i₀ out at i = length part - i
 
 loop-holds : tie.Need-loop-holds Inv-loop μ-loop
-loop-holds c = (omega arith, omega arith, owes-all)
+loop-holds c = copied-none
 
 mul-v : tie.Need-mul-v Inv-loop μ-loop
 mul-v c = search needs
@@ -49,19 +46,13 @@ loop-again c =
     let i = l .loop .i in
     let x = getD (a .part .now) i (pos 0) in
     let e : toZ w32 (ofZ w32 x) ≡ x = toZ-ofZ w32 x (record { sfits = p .before .before .v .given }) in
-    let w = subst (λ (z : ℤ). Wrote (l .loop .out) (l .loop .at) (z ∷ []) (p .put .result) (p .put .last .0)) e (p .put .ensures) in (
-      omega arith,
-      omega (arith, w .next, l .loop .inv),
-      owes-part (l .loop .inv .2) (rw add-one (drop-cons (a .part .now) i (pos 0) (t .loop-test .taken))) w,
-    )
+    copied-turn (pos 0) (l .loop .inv) (t .loop-test .taken) (wrote-as (ap (λ (z : ℤ). z ∷ []) e) (p .put .ensures))
 
 same-length : tie.Need-same-length Inv-loop μ-loop
-same-length c = c .before .loop .inv .2 .long
+same-length c = c .before .loop .inv .owed .long
 
 returns : tie.Need-returns Inv-loop μ-loop
-returns c =
-    let l = c .before in
-    owes-none (l .loop .inv .2) (drop-of-length-le (l .before .args .part .now) {i = l .loop .i} (omega (arith, c .loop-test .left)))
+returns c = copied-all (c .before .loop .inv) (omega (arith, c .loop-test .left))
 
 pub put-part-spec : {M : Type 1} → statement M
 put-part-spec =

@@ -1,9 +1,9 @@
 -- The literal handed on is the one made.
 use Rattle.puts.proofs.Entries.{pos-fits, passed}
-use Rattle.lists.specs.Stores.{Wrote}
+use Rattle.lists.proofs.Stores.{wrote-as}
 use lib.IntN.{ℤ, pos}
 use mathlib.Core.List.{[], _∷_}
-use mathlib.Core.Path.{subst}
+use mathlib.Core.Path.{ap}
 use borrow.Author.Needs.{needs}
 use Rattle.puts.proofs.put_plus.Statement.{statement}
 use Rattle.puts.proofs.put_plus.Tie as tie
@@ -21,8 +21,7 @@ returns : tie.Need-returns
 returns c =
     let p = c .before in
     let a = p .before .before .before in
-    subst (λ (z : ℤ). Wrote (a .args .out .now) (a .args .at) (z ∷ []) (p .put .result) (p .put .last .0))
-    (passed (pos (a .args .v)) (pos-fits (a .args .v) (a .pre .1)) (p .before .literal .ensures)) (p .put .ensures)
+    wrote-as (ap (λ (z : ℤ). z ∷ []) (passed (pos (a .args .v)) (pos-fits (a .args .v) (a .pre .1)) (p .before .literal .ensures))) (p .put .ensures)
 
 pub put-plus-spec : {M : Type 1} → statement M
 put-plus-spec = tie.close (tie.spec literal-requires put-requires same-length returns)

@@ -1,24 +1,20 @@
 -- What is left of the text is still owed.
-use Rattle.lists.proofs.Stores.{owes-all, owes-part, owes-none}
-use Rattle.lists.specs.Stores.{Owes}
-use lib.Seq.{drop-cons}
-use lib.ListN.{length, drop, drop-of-length-le}
-use Prim.Native.Nat.{_+_, _-_, _≤_}
-use mathlib.Core.Path.{_≡_}
-use native.Mathlib.Numerals.{add-one}
+use Rattle.lists.proofs.Stores.{Copied, copied-none, copied-turn, copied-all}
+use lib.ListN.{length}
+use Prim.Native.Nat.{_-_}
 use native.Mathlib.Omega.{arith}
 use borrow.Author.Needs.{needs}
 use Rattle.text_out.proofs.put_bytes.Statement.{statement}
 use Rattle.text_out.proofs.put_bytes.Tie as tie
 
 abbrev Inv-loop : tie.InvT-loop
-Inv-loop out₀ from text at₀ i₀ out at i = (i ≤ length text) × (at ≡ from + i) × Owes out₀ from text out at (drop i text)
+Inv-loop out₀ from text at₀ i₀ out at i = Copied out₀ from text out at i
 
 abbrev μ-loop : tie.MeasureT-loop
 μ-loop out₀ from text at₀ i₀ out at i = length text - i
 
 loop-holds : tie.Need-loop-holds Inv-loop μ-loop
-loop-holds c = (omega arith, omega arith, owes-all)
+loop-holds c = copied-none
 
 shared-slice-read-b : tie.Need-shared-slice-read-b Inv-loop μ-loop
 shared-slice-read-b c = search needs
@@ -35,19 +31,13 @@ loop-less c = search needs
 loop-again : tie.Need-loop-again Inv-loop μ-loop
 loop-again c =
     let l = c .before .before .before .before .before .before in
-    let w = c .before .before .put-byte .ensures in (
-      omega arith,
-      omega (arith, w .next, l .loop .inv),
-      owes-part (l .loop .inv .2) (rw add-one (drop-cons (l .before .before .before .args .text .now) (l .loop .i) 0 (omega arith))) w,
-    )
+    copied-turn 0 (l .loop .inv) (omega arith) (c .before .before .put-byte .ensures)
 
 same-length : tie.Need-same-length Inv-loop μ-loop
-same-length c = c .before .loop .inv .2 .long
+same-length c = c .before .loop .inv .owed .long
 
 returns : tie.Need-returns Inv-loop μ-loop
-returns c =
-    let l = c .before in
-    owes-none (l .loop .inv .2) (drop-of-length-le (l .before .before .before .args .text .now) {i = l .loop .i} (omega (arith, c .loop-test .left)))
+returns c = copied-all (c .before .loop .inv) (omega (arith, c .loop-test .left))
 
 pub put-bytes-spec : {M : Type 1} → statement M
 put-bytes-spec =
