@@ -1,7 +1,12 @@
 -- The refusal's number between the two keys, and its place up to the line feed.
-use Rattle.lists.proofs.Stores.{wrote-append}
+use Rattle.lists.proofs.Stores.{wrote-append, wrote-as}
+use Rattle.lists.specs.Decimal.{digits}
+use Rattle.text_out.specs.Texts.{lineOf}
 use Rattle.refusal_out.proofs.Refused.{length-refused, short-refused}
-use Rattle.refusal_out.specs.Refused.{refusedLine}
+use Rattle.refusal_out.specs.Refused.{placeKey, refusedLine}
+use lib.ListN.{length}
+use Prim.Native.Nat.{ℕ}
+use mathlib.Core.Path.{ap}
 use native.Mathlib.Omega.{arith}
 use borrow.Author.Needs.{needs}
 use Rattle.refusal_out.proofs.put_refused.Statement.{statement}
@@ -32,7 +37,7 @@ put-number-requires c κs =
     let n = p .before in
     let f = n .before .before .args .f in
     let short = short-refused f (omega (arith, p .place .ok, p .place .ensures)) in
-    rw (n .number .ensures) (omega (arith, length-refused f, short, one .put-bytes .ensures .next))
+    omega (arith, ap (λ (k : ℕ). length (digits k)) (n .number .ensures), length-refused f, short, one .put-bytes .ensures .next)
 
 slice-aggregate-put-line : tie.Need-slice-aggregate-put-line
 slice-aggregate-put-line c = search needs
@@ -45,14 +50,15 @@ put-line-requires c κs =
     let n = p .before in
     let f = n .before .before .args .f in
     let short = short-refused f (omega (arith, p .place .ok, p .place .ensures)) in
-    rw (p .place .ensures)
-    (omega (
+    omega (
       arith,
+      ap (λ (k : ℕ). length (digits k)) (n .number .ensures),
+      ap (λ (k : ℕ). length (lineOf placeKey k)) (p .place .ensures),
       length-refused f,
       short,
       one .put-bytes .ensures .next,
-      rw (n .number .ensures) at (two .put-number .ensures .next),
-    ))
+      two .put-number .ensures .next,
+    )
 
 same-length : tie.Need-same-length
 same-length c = search needs
@@ -65,7 +71,8 @@ returns c =
     let p = one .before .before .before in
     let n = p .before in
     wrote-append (one .put-bytes .ensures)
-    (wrote-append (rw (n .number .ensures) at (two .put-number .ensures)) (rw (p .place .ensures) at (c .before .before .put-line .ensures)))
+    (wrote-append (wrote-as (ap digits (n .number .ensures)) (two .put-number .ensures))
+    (wrote-as (ap (lineOf placeKey) (p .place .ensures)) (c .before .before .put-line .ensures)))
 
 pub put-refused-spec : {M : Type 1} → statement M
 put-refused-spec =
