@@ -10,7 +10,7 @@ mod clauses;
 
 ghost use Prim.Native.Nat.{_<_};
 
-// The largest table has 4930 words.
+// What calls_plans and calls_list make: the largest table has 4930 words.
 fn has_plain_room(case: &[u32]) -> bool {
     if head::fits(case, head::TABLE, 5120) {
         return head::fits(case, head::TEXT, 131072);

@@ -1,4 +1,4 @@
--- No list of an end is longer than the scratch of the pass that measures.
+-- No list of an end has more than 1024 entries: what `encode`, and the pass that measures a text, lend as scratch.
 use mathlib.Core.Path.{sym, subst}
 use mathlib.Core.List.{List, []}
 use Prim.Native.Nat.{ℕ, zero, suc, _+_, _≤_, max}
