@@ -1,5 +1,5 @@
 // Bytes and words put into lent slices. A cursor goes in and the next one comes out; what is past the slice's end moves the cursor alone, so
-// that the same function measures and writes. One store for each width of entries: the language has no generics.
+// that the same function measures and writes. Literals are put so in puts and weights in fills: the language has no generics.
 ghost use mathlib.Core.List.{[], _∷_};
 ghost use Prim.Native.Nat.{_+_, _^_, _<_};
 ghost use lib.ListN.{length};
