@@ -1,4 +1,6 @@
 // What `decode` prints of a plan: its value lines and its cost line, put into a lent slice of bytes as text_out puts.
+#![tactic(auto)]
+
 ghost use Rattle.std.specs.Prelude.{◌+◌, ◌*◌, ◌^◌, ◌≤◌, ◌<◌, length};
 ghost use Rattle.lists.specs.Stores.{Wrote};
 ghost use Rattle.answer_out.specs.Answer.{value_line, value_lines, cost_line, answer_text};

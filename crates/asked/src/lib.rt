@@ -1,4 +1,6 @@
 // What an entry point is asked for: an encoding by its two numbers, and a table. Both are judged here, in the document's order, for all of them.
+#![tactic(auto)]
+
 ghost use Rattle.std.specs.Prelude.{◌≡◌};
 ghost use Rattle.table.specs.Words.{judged};
 ghost use Rattle.clause.specs.Encodings.{picked_of};
@@ -8,7 +10,7 @@ use clause::{Encoding, Picked};
 use refusal::Refusal;
 use table::{Checked, Counts};
 
-#[derive(Drop)]
+#[derive(Clone, Copy)]
 pub enum Asked {
     Ready(Encoding, Counts),
     Refused(Refusal),

@@ -1,4 +1,6 @@
 // Clauses from both ends of a pair: those of each, or those of the end that is taken, whose list is handed on from where it was written.
+#![tactic(auto)]
+
 ghost use Rattle.std.specs.Prelude.{◌≡◌, [], ◌∷◌, ◌+◌, ◌^◌, ◌≤◌, ◌<◌, length};
 ghost use Rattle.std.proofs.lemmas.List.Edits.{sets};
 ghost use Rattle.lists.specs.Stores.{Wrote};

@@ -1,6 +1,7 @@
 // The WCNF text of a table: two scratch buffers, and room for the text.
 use calls_case::answer::Answer;
 use calls_case::{answer, head, lent};
+use std::io::Write;
 use wcnf_out::Written;
 
 fn write_wcnf(
@@ -51,32 +52,32 @@ fn call_filled(
     call(case, words, first, second, text)
 }
 
-fn show_in(case: &[u32], words: &[u32], text: &mut [u8]) {
+fn show_in(to: &mut impl Write, case: &[u32], words: &[u32], text: &mut [u8]) {
     let mut first = [0i32; 2048];
     let mut second = [0i32; 2048];
     let mut space = [0u8; 16384];
-    answer::say(call_filled(case, words, &mut first, &mut second, text));
-    lent::say_literals(case, head::FIRST, &first, &mut space);
-    lent::say_literals(case, head::SECOND, &second, &mut space);
-    prints::send(text, head::shown(case, head::TEXT));
+    answer::say(to, call_filled(case, words, &mut first, &mut second, text));
+    lent::say_literals(to, case, head::FIRST, &first, &mut space);
+    lent::say_literals(to, case, head::SECOND, &second, &mut space);
+    prints::send(to, text, head::shown(case, head::TEXT));
 }
 
-fn show_small(case: &[u32], words: &[u32]) {
+fn show_small(to: &mut impl Write, case: &[u32], words: &[u32]) {
     let mut text = [0u8; 131072];
-    show_in(case, words, &mut text);
+    show_in(to, case, words, &mut text);
 }
 
-fn show_large(case: &[u32], words: &[u32]) {
+fn show_large(to: &mut impl Write, case: &[u32], words: &[u32]) {
     let mut text = [0u8; 1800000];
-    show_in(case, words, &mut text);
+    show_in(to, case, words, &mut text);
 }
 
-pub fn show(case: &[u32], words: &[u32]) {
+pub fn show(to: &mut impl Write, case: &[u32], words: &[u32]) {
     if head::fits(case, head::TEXT, 131072) {
-        show_small(case, words);
+        show_small(to, case, words);
     } else if head::fits(case, head::TEXT, 1800000) {
-        show_large(case, words);
+        show_large(to, case, words);
     } else {
-        answer::say(answer::not_called());
+        answer::say(to, answer::not_called());
     }
 }

@@ -2,6 +2,7 @@
 use calls_case::answer::Answer;
 use calls_case::{answer, head, lent};
 use encoder::Encoded;
+use std::io::Write;
 
 fn encode(
     case: &[u32],
@@ -58,6 +59,7 @@ fn call_filled(
 }
 
 fn say_left(
+    to: &mut impl Write,
     case: &[u32],
     first: &[i32],
     second: &[i32],
@@ -65,13 +67,14 @@ fn say_left(
     weights: &[u64],
     space: &mut [u8],
 ) {
-    lent::say_literals(case, head::FIRST, first, space);
-    lent::say_literals(case, head::SECOND, second, space);
-    lent::say_literals(case, head::LITERALS, literals, space);
-    lent::say_weights(case, head::WEIGHTS, weights, space);
+    lent::say_literals(to, case, head::FIRST, first, space);
+    lent::say_literals(to, case, head::SECOND, second, space);
+    lent::say_literals(to, case, head::LITERALS, literals, space);
+    lent::say_weights(to, case, head::WEIGHTS, weights, space);
 }
 
 fn show_in(
+    to: &mut impl Write,
     case: &[u32],
     words: &[u32],
     literals: &mut [i32],
@@ -80,23 +83,26 @@ fn show_in(
 ) {
     let mut first = [0i32; 2048];
     let mut second = [0i32; 2048];
-    answer::say(call_filled(case, words, &mut first, &mut second, literals, weights));
-    say_left(case, &first, &second, literals, weights, space);
+    answer::say(
+        to,
+        call_filled(case, words, &mut first, &mut second, literals, weights),
+    );
+    say_left(to, case, &first, &second, literals, weights, space);
 }
 
-fn show_small(case: &[u32], words: &[u32]) {
+fn show_small(to: &mut impl Write, case: &[u32], words: &[u32]) {
     let mut literals = [0i32; 16384];
     let mut weights = [0u64; 8192];
     let mut space = [0u8; 131072];
-    show_in(case, words, &mut literals, &mut weights, &mut space);
+    show_in(to, case, words, &mut literals, &mut weights, &mut space);
 }
 
 // What the largest tables need, and more: they have 220,736 literals with their zeros and 73,280 weights.
-fn show_large(case: &[u32], words: &[u32]) {
+fn show_large(to: &mut impl Write, case: &[u32], words: &[u32]) {
     let mut literals = [0i32; 262144];
     let mut weights = [0u64; 81920];
     let mut space = [0u8; 1400000];
-    show_in(case, words, &mut literals, &mut weights, &mut space);
+    show_in(to, case, words, &mut literals, &mut weights, &mut space);
 }
 
 fn is_small(case: &[u32]) -> bool {
@@ -113,12 +119,12 @@ fn is_large(case: &[u32]) -> bool {
     false
 }
 
-pub fn show(case: &[u32], words: &[u32]) {
+pub fn show(to: &mut impl Write, case: &[u32], words: &[u32]) {
     if is_small(case) {
-        show_small(case, words);
+        show_small(to, case, words);
     } else if is_large(case) {
-        show_large(case, words);
+        show_large(to, case, words);
     } else {
-        answer::say(answer::not_called());
+        answer::say(to, answer::not_called());
     }
 }

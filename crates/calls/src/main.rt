@@ -1,7 +1,10 @@
 // calls: runs the entry points of the library on cases from standard input. A case says which, what it is given and how long the lent buffers are;
 // calls_case has its form. The buffers that the entry point is lent are filled, it is called, and its answer and these buffers are written to standard
 // output, with eight entries past each: so a stray store, or one before a refusal, shows. tests/second holds it to its own answers.
+#![tactic(auto)]
+
 use calls_case::{answer, given, head};
+use std::io::{Read, Write};
 
 mod clause_text;
 mod clauses;
@@ -32,45 +35,45 @@ fn has_room(case: &[u32]) -> bool {
 }
 
 // Entry points 10 and 11; with another number none is called.
-fn show_clauses(case: &[u32], words: &[u32]) {
+fn show_clauses(to: &mut impl Write, case: &[u32], words: &[u32]) {
     let entry = head::number(case, head::ENTRY);
     if entry == 10 {
-        clauses::show(case, words);
+        clauses::show(to, case, words);
     } else if entry == 11 {
-        clause_text::show(case, words);
+        clause_text::show(to, case, words);
     } else {
-        answer::say(answer::not_called());
+        answer::say(to, answer::not_called());
     }
 }
 
-fn show_in_room(case: &[u32], words: &[u32], plan: &[u32], bytes: &[u8]) {
+fn show_in_room(to: &mut impl Write, case: &[u32], words: &[u32], plan: &[u32], bytes: &[u8]) {
     let entry = head::number(case, head::ENTRY);
     if entry < 9 {
-        calls_plans::show(case, words, plan, bytes);
+        calls_plans::show(to, case, words, plan, bytes);
     } else if entry == 9 {
-        calls_list::show(case, bytes);
+        calls_list::show(to, case, bytes);
     } else {
-        show_clauses(case, words);
+        show_clauses(to, case, words);
     }
 }
 
-fn show(case: &[u32], words: &[u32], plan: &[u32], bytes: &[u8]) {
+fn show(to: &mut impl Write, case: &[u32], words: &[u32], plan: &[u32], bytes: &[u8]) {
     if has_room(case) {
-        show_in_room(case, words, plan, bytes);
+        show_in_room(to, case, words, plan, bytes);
     } else {
-        answer::say(answer::not_called());
+        answer::say(to, answer::not_called());
     }
 }
 
 // The call, on as many words, entries of a plan and bytes as the case has: with more than there is room for it was not read.
-fn show_on_given(case: &[u32], words: &[u32], plan: &[u32], bytes: &[u8]) {
+fn show_on_given(to: &mut impl Write, case: &[u32], words: &[u32], plan: &[u32], bytes: &[u8]) {
     let n = head::length(case, head::WORDS);
     let m = head::length(case, head::PLAN);
     let k = head::length(case, head::BYTES);
     if n <= words.len() {
         if m <= plan.len() {
             if k <= bytes.len() {
-                show(case, &words[..n], &plan[..m], &bytes[..k]);
+                show(to, case, &words[..n], &plan[..m], &bytes[..k]);
             }
         }
     }
@@ -78,49 +81,55 @@ fn show_on_given(case: &[u32], words: &[u32], plan: &[u32], bytes: &[u8]) {
 
 // A case in the room lent for what it is given: false if the input ends before the case does.
 fn run_in(
+    input: &mut impl Read,
+    to: &mut impl Write,
     case: &[u32],
     words: &mut [u32],
     plan: &mut [u32],
     bytes: &mut [u8],
     space: &mut [u8],
 ) -> bool {
-    if given::read_inputs(case, words, plan, bytes, space) {
-        show_on_given(case, words, plan, bytes);
+    if given::read_inputs(input, case, words, plan, bytes, space) {
+        show_on_given(to, case, words, plan, bytes);
         return true;
     }
     false
 }
 
-fn run_small(case: &[u32]) -> bool {
+fn run_small(input: &mut impl Read, to: &mut impl Write, case: &[u32]) -> bool {
     let mut words = [0u32; 512];
     let mut plan = [0u32; 128];
     let mut bytes = [0u8; 2048];
     let mut space = [0u8; 2048];
-    run_in(case, &mut words, &mut plan, &mut bytes, &mut space)
+    run_in(
+        input, to, case, &mut words, &mut plan, &mut bytes, &mut space,
+    )
 }
 
 // The largest table has 4930 words.
-fn run_large(case: &[u32]) -> bool {
+fn run_large(input: &mut impl Read, to: &mut impl Write, case: &[u32]) -> bool {
     let mut words = [0u32; 8192];
     let mut plan = [0u32; 1024];
     let mut bytes = [0u8; 131072];
     let mut space = [0u8; 32768];
-    run_in(case, &mut words, &mut plan, &mut bytes, &mut space)
+    run_in(
+        input, to, case, &mut words, &mut plan, &mut bytes, &mut space,
+    )
 }
 
 // Most cases are small, and room costs time: it is zero before each.
-fn run(case: &[u32]) -> bool {
+fn run(input: &mut impl Read, to: &mut impl Write, case: &[u32]) -> bool {
     if given::is_small(case) {
-        return run_small(case);
+        return run_small(input, to, case);
     }
-    run_large(case)
+    run_large(input, to, case)
 }
 
 // False if no case is left.
-fn run_case() -> bool {
+fn run_case(input: &mut impl Read, to: &mut impl Write) -> bool {
     let mut case = [0u32; 13];
-    if given::read_head(&mut case) {
-        return run(&case);
+    if given::read_head(input, &mut case) {
+        return run(input, to, &case);
     }
     false
 }
@@ -136,9 +145,11 @@ fn turns_left(more: bool, left: u32) -> u32
 }
 
 // A million cases at most.
-fn main() {
+fn main(rt: HostRuntime) {
+    let mut input = rt.stdin();
+    let mut to = rt.stdout();
     let mut left = 1000000;
     while left > 0 {
-        left = turns_left(run_case(), left);
+        left = turns_left(run_case(&mut input, &mut to), left);
     }
 }

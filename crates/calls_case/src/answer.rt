@@ -1,8 +1,9 @@
 // What an entry point answered, as numbers: that of the refusal and its place, or 0 and the values of a success.
 use crate::coded;
 use refusal::Refusal;
+use std::io::Write;
 
-#[derive(Drop)]
+#[derive(Clone, Copy)]
 pub struct Answer {
     number: u64,
     a: u64,
@@ -47,8 +48,8 @@ fn put(answer: Answer, out: &mut [u8]) -> usize {
     coded::put_number(out, e, answer.e, 8)
 }
 
-pub fn say(answer: Answer) {
+pub fn say(to: &mut impl Write, answer: Answer) {
     let mut out = [0u8; 48];
     let end = put(answer, &mut out);
-    prints::send(&out, end);
+    prints::send(to, &out, end);
 }

@@ -22,10 +22,8 @@ fn put_number_of(bytes: &[u8], out: &mut [u32], i: usize) {
 
 // The first `n` numbers of the bytes.
 pub fn put_numbers_of(bytes: &[u8], n: usize, out: &mut [u32]) {
-    let mut i = 0;
-    while i < n {
+    for i in 0..n {
         put_number_of(bytes, out, i);
-        i += 1;
     }
 }
 
@@ -42,11 +40,9 @@ fn put_byte(out: &mut [u8], at: usize, b: u8) -> usize {
 pub fn put_number(out: &mut [u8], from: usize, v: u64, bytes: u32) -> usize {
     let mut at = from;
     let mut rest = v;
-    let mut k = 0;
-    while k < bytes {
+    for _ in 0..bytes {
         at = put_byte(out, at, (rest % 256) as u8);
         rest = rest / 256;
-        k += 1;
     }
     at
 }

@@ -1,18 +1,19 @@
 // What a case is given, from standard input: its head and then its words, its plan and its bytes. False if the input ends, or is past the room for it.
 use crate::{coded, head};
+use std::io::Read;
 
-fn read_bytes(n: usize, out: &mut [u8]) -> bool {
+fn read_bytes(input: &mut impl Read, n: usize, out: &mut [u8]) -> bool {
     if n <= out.len() {
-        return io::read_full(0, &mut out[..n]) == n;
+        return prints::read_full(input, &mut out[..n]) == n;
     }
     false
 }
 
 // More than the largest room are not asked for, so the bytes can be counted.
-fn read_numbers(n: usize, space: &mut [u8], out: &mut [u32]) -> bool {
+fn read_numbers(input: &mut impl Read, n: usize, space: &mut [u8], out: &mut [u32]) -> bool {
     if n <= out.len() {
         if n <= 8192 {
-            if read_bytes(n * 4, space) {
+            if read_bytes(input, n * 4, space) {
                 coded::put_numbers_of(space, n, out);
                 return true;
             }
@@ -21,9 +22,9 @@ fn read_numbers(n: usize, space: &mut [u8], out: &mut [u32]) -> bool {
     false
 }
 
-pub fn read_head(case: &mut [u32]) -> bool {
+pub fn read_head(input: &mut impl Read, case: &mut [u32]) -> bool {
     let mut space = [0u8; 52];
-    read_numbers(13, &mut space, case)
+    read_numbers(input, 13, &mut space, case)
 }
 
 pub fn is_small(case: &[u32]) -> bool {
@@ -36,15 +37,16 @@ pub fn is_small(case: &[u32]) -> bool {
 }
 
 pub fn read_inputs(
+    input: &mut impl Read,
     case: &[u32],
     words: &mut [u32],
     plan: &mut [u32],
     bytes: &mut [u8],
     space: &mut [u8],
 ) -> bool {
-    if read_numbers(head::length(case, head::WORDS), space, words) {
-        if read_numbers(head::length(case, head::PLAN), space, plan) {
-            return read_bytes(head::length(case, head::BYTES), bytes);
+    if read_numbers(input, head::length(case, head::WORDS), space, words) {
+        if read_numbers(input, head::length(case, head::PLAN), space, plan) {
+            return read_bytes(input, head::length(case, head::BYTES), bytes);
         }
     }
     false

@@ -2,6 +2,7 @@
 ghost use Rattle.std.specs.Prelude.{◌<◌};
 
 use crate::{coded, head};
+use std::io::Write;
 
 // What stands at an index before a call: another number at each.
 fn pattern(seed: u32, i: usize) -> u32
@@ -19,10 +20,8 @@ fn fill_byte(out: &mut [u8], i: usize, seed: u32) {
 pub fn fill_bytes(case: &[u32], which: usize, out: &mut [u8]) {
     let n = head::shown(case, which);
     let seed = head::number(case, head::SEED);
-    let mut i = 0;
-    while i < n {
+    for i in 0..n {
         fill_byte(out, i, seed);
-        i += 1;
     }
 }
 
@@ -35,10 +34,8 @@ fn fill_word(out: &mut [u32], i: usize, seed: u32) {
 pub fn fill_words(case: &[u32], which: usize, out: &mut [u32]) {
     let n = head::shown(case, which);
     let seed = head::number(case, head::SEED);
-    let mut i = 0;
-    while i < n {
+    for i in 0..n {
         fill_word(out, i, seed);
-        i += 1;
     }
 }
 
@@ -51,10 +48,8 @@ fn fill_literal(out: &mut [i32], i: usize, seed: u32) {
 pub fn fill_literals(case: &[u32], which: usize, out: &mut [i32]) {
     let n = head::shown(case, which);
     let seed = head::number(case, head::SEED);
-    let mut i = 0;
-    while i < n {
+    for i in 0..n {
         fill_literal(out, i, seed);
-        i += 1;
     }
 }
 
@@ -67,10 +62,8 @@ fn fill_weight(out: &mut [u64], i: usize, seed: u32) {
 pub fn fill_weights(case: &[u32], which: usize, out: &mut [u64]) {
     let n = head::shown(case, which);
     let seed = head::number(case, head::SEED);
-    let mut i = 0;
-    while i < n {
+    for i in 0..n {
         fill_weight(out, i, seed);
-        i += 1;
     }
 }
 
@@ -81,15 +74,13 @@ fn put_word(s: &[u32], i: usize, out: &mut [u8], at: usize) -> usize {
     at
 }
 
-pub fn say_words(case: &[u32], which: usize, s: &[u32], out: &mut [u8]) {
+pub fn say_words(to: &mut impl Write, case: &[u32], which: usize, s: &[u32], out: &mut [u8]) {
     let n = head::shown(case, which);
     let mut at = 0;
-    let mut i = 0;
-    while i < n {
+    for i in 0..n {
         at = put_word(s, i, out, at);
-        i += 1;
     }
-    prints::send(out, at);
+    prints::send(to, out, at);
 }
 
 fn put_literal(s: &[i32], i: usize, out: &mut [u8], at: usize) -> usize {
@@ -99,15 +90,13 @@ fn put_literal(s: &[i32], i: usize, out: &mut [u8], at: usize) -> usize {
     at
 }
 
-pub fn say_literals(case: &[u32], which: usize, s: &[i32], out: &mut [u8]) {
+pub fn say_literals(to: &mut impl Write, case: &[u32], which: usize, s: &[i32], out: &mut [u8]) {
     let n = head::shown(case, which);
     let mut at = 0;
-    let mut i = 0;
-    while i < n {
+    for i in 0..n {
         at = put_literal(s, i, out, at);
-        i += 1;
     }
-    prints::send(out, at);
+    prints::send(to, out, at);
 }
 
 fn put_weight(s: &[u64], i: usize, out: &mut [u8], at: usize) -> usize {
@@ -117,13 +106,11 @@ fn put_weight(s: &[u64], i: usize, out: &mut [u8], at: usize) -> usize {
     at
 }
 
-pub fn say_weights(case: &[u32], which: usize, s: &[u64], out: &mut [u8]) {
+pub fn say_weights(to: &mut impl Write, case: &[u32], which: usize, s: &[u64], out: &mut [u8]) {
     let n = head::shown(case, which);
     let mut at = 0;
-    let mut i = 0;
-    while i < n {
+    for i in 0..n {
         at = put_weight(s, i, out, at);
-        i += 1;
     }
-    prints::send(out, at);
+    prints::send(to, out, at);
 }

@@ -1,7 +1,10 @@
 // The entry point of the program calls that reads a sheet with its list line: room for a table and for a list.
+#![tactic(auto)]
+
 use calls_case::answer::Answer;
 use calls_case::{answer, head, lent};
 use list_in::ReadList;
+use std::io::Write;
 
 fn read_list(text: &[u8], table: &mut [u32], list: &mut [u8]) -> Answer {
     match list_in::read_list(text, table, list) {
@@ -19,17 +22,24 @@ fn call(case: &[u32], text: &[u8], table: &mut [u32], list: &mut [u8]) -> Answer
     read_list(text, &mut table[..n], &mut list[..m])
 }
 
-fn show_in(case: &[u32], text: &[u8], table: &mut [u32], list: &mut [u8], space: &mut [u8]) {
+fn show_in(
+    to: &mut impl Write,
+    case: &[u32],
+    text: &[u8],
+    table: &mut [u32],
+    list: &mut [u8],
+    space: &mut [u8],
+) {
     lent::fill_words(case, head::TABLE, table);
     lent::fill_bytes(case, head::TEXT, list);
-    answer::say(call(case, text, table, list));
-    lent::say_words(case, head::TABLE, table, space);
-    prints::send(list, head::shown(case, head::TEXT));
+    answer::say(to, call(case, text, table, list));
+    lent::say_words(to, case, head::TABLE, table, space);
+    prints::send(to, list, head::shown(case, head::TEXT));
 }
 
-pub fn show(case: &[u32], text: &[u8]) {
+pub fn show(to: &mut impl Write, case: &[u32], text: &[u8]) {
     let mut table = [0u32; 5120];
     let mut list = [0u8; 131072];
     let mut space = [0u8; 20480];
-    show_in(case, text, &mut table, &mut list, &mut space);
+    show_in(to, case, text, &mut table, &mut list, &mut space);
 }

@@ -3,6 +3,7 @@ use calls_case::answer::Answer;
 use calls_case::{answer, head};
 use measure::{Measured, Needed};
 use plan::Costed;
+use std::io::Write;
 use table::Checked;
 
 fn check(words: &[u32]) -> Answer {
@@ -59,6 +60,6 @@ fn call(case: &[u32], words: &[u32], of: &[u32]) -> Answer {
     answer::not_called()
 }
 
-pub fn show(case: &[u32], words: &[u32], of: &[u32]) {
-    answer::say(call(case, words, of));
+pub fn show(to: &mut impl Write, case: &[u32], words: &[u32], of: &[u32]) {
+    answer::say(to, call(case, words, of));
 }

@@ -3,6 +3,7 @@ use calls_case::answer::Answer;
 use calls_case::{answer, head, lent};
 use decoder::Decoded;
 use sheet_in::ReadSheet;
+use std::io::Write;
 
 // Entry points 5 and 7.
 pub fn are_lent(entry: u32) -> bool {
@@ -42,14 +43,21 @@ fn call_lent(case: &[u32], words: &[u32], bytes: &[u8], out: &mut [u32]) -> Answ
     call(case, words, bytes, &mut out[..n])
 }
 
-fn show_in(case: &[u32], words: &[u32], bytes: &[u8], out: &mut [u32], space: &mut [u8]) {
+fn show_in(
+    to: &mut impl Write,
+    case: &[u32],
+    words: &[u32],
+    bytes: &[u8],
+    out: &mut [u32],
+    space: &mut [u8],
+) {
     lent::fill_words(case, head::TABLE, out);
-    answer::say(call_lent(case, words, bytes, out));
-    lent::say_words(case, head::TABLE, out, space);
+    answer::say(to, call_lent(case, words, bytes, out));
+    lent::say_words(to, case, head::TABLE, out, space);
 }
 
-pub fn show(case: &[u32], words: &[u32], bytes: &[u8]) {
+pub fn show(to: &mut impl Write, case: &[u32], words: &[u32], bytes: &[u8]) {
     let mut out = [0u32; 5120];
     let mut space = [0u8; 20480];
-    show_in(case, words, bytes, &mut out, &mut space);
+    show_in(to, case, words, bytes, &mut out, &mut space);
 }

@@ -3,6 +3,7 @@ use calls_case::answer::Answer;
 use calls_case::{answer, head, lent};
 use decoder::Made;
 use sheet_out::Written;
+use std::io::Write;
 
 fn make_list(words: &[u32], hard: u32, side: u32, plan: &[u32], list: &mut [u8]) -> Answer {
     match maker::make_list(words, hard, side, plan, list) {
@@ -34,13 +35,13 @@ fn call_lent(case: &[u32], words: &[u32], plan: &[u32], out: &mut [u8]) -> Answe
     call(case, words, plan, &mut out[..n])
 }
 
-fn show_in(case: &[u32], words: &[u32], plan: &[u32], out: &mut [u8]) {
+fn show_in(to: &mut impl Write, case: &[u32], words: &[u32], plan: &[u32], out: &mut [u8]) {
     lent::fill_bytes(case, head::TEXT, out);
-    answer::say(call_lent(case, words, plan, out));
-    prints::send(out, head::shown(case, head::TEXT));
+    answer::say(to, call_lent(case, words, plan, out));
+    prints::send(to, out, head::shown(case, head::TEXT));
 }
 
-pub fn show(case: &[u32], words: &[u32], plan: &[u32]) {
+pub fn show(to: &mut impl Write, case: &[u32], words: &[u32], plan: &[u32]) {
     let mut out = [0u8; 131072];
-    show_in(case, words, plan, &mut out);
+    show_in(to, case, words, plan, &mut out);
 }

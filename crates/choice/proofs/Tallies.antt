@@ -55,6 +55,10 @@ share_few e j h =
       score = points_few (length (supports e j) + 1);
     }))
 
+-- nor does what is known to be a value's tally
+pub shared_few : (e : End) (j : ℕ) (t : EndTally) → t ≡ tally_of (support_at e [] j) → e.theirs ≤ 16 → Few t
+shared_few e j t p h = rw p (share_few e j h)
+
 -- ---- all values
 
 -- what was counted and the clauses cs, still to be counted, come to t

@@ -1,4 +1,6 @@
 // What the clauses of each end come to, which end the sides literals and score take by it, and that end's list handed on.
+#![tactic(auto)]
+
 ghost use Rattle.std.specs.Prelude.{◌≡◌, cond, [], ◌≤◌, ◌<◌, length, take};
 ghost use Rattle.table.specs.Table.{In};
 ghost use Rattle.clause.specs.Ends.{support_at};
@@ -9,7 +11,7 @@ ghost use Rattle.choice.specs.Tally.{tally_of, end_tally, second_by};
 use ends::Seen;
 
 // How many clauses, how many literals in all, and their score. A value that all values of the other box support counts in none.
-#[derive(Drop)]
+#[derive(Clone, Copy)]
 pub struct EndTally {
     pub clauses: usize,
     pub literals: usize,

@@ -1,16 +1,18 @@
 // The ten encodings as definitions (specs/) and what their clauses mean (proofs/). The code is the choice of an encoding by its two numbers.
+#![tactic(auto)]
+
 ghost use Rattle.std.specs.Prelude.{◌≡◌};
 ghost use Rattle.clause.specs.Encodings.{with_side_lem, picked_of};
 
 // The hard part: how the clauses of a box say that it has one value.
-#[derive(Drop)]
+#[derive(Clone, Copy)]
 pub enum Hard {
     Standard,
     Regular,
 }
 
 // The side: how the clauses of a pair charge what it forbids.
-#[derive(Drop)]
+#[derive(Clone, Copy)]
 pub enum Side {
     Direct,
     Support,
@@ -19,13 +21,13 @@ pub enum Side {
     Score,
 }
 
-#[derive(Drop)]
+#[derive(Clone, Copy)]
 pub struct Encoding {
     pub hard: Hard,
     pub side: Side,
 }
 
-#[derive(Drop)]
+#[derive(Clone, Copy)]
 pub enum Picked {
     Known(Encoding),
     Unknown,

@@ -1,4 +1,6 @@
 // The clause list of a table with its weights, into buffers that were judged to hold them.
+#![tactic(auto)]
+
 ghost use Rattle.std.specs.Prelude.{◌^◌, ◌≤◌, ◌<◌, length};
 ghost use Rattle.table.specs.Words.{table_of};
 ghost use Rattle.table.specs.Answers.{Counted};
@@ -10,7 +12,7 @@ use clause::Encoding;
 use table::Counts;
 
 // How many literal entries and weights were written.
-#[derive(Drop)]
+#[derive(Clone, Copy)]
 pub struct Written {
     pub literals: usize,
     pub weights: usize,

@@ -1,4 +1,6 @@
 // A refusal as one number, for a program in another language.
+#![tactic(auto)]
+
 ghost use Rattle.std.specs.Prelude.{◌≡◌, min};
 ghost use Rattle.refusal.specs.Refusals.{refusal_says};
 ghost use Rattle.codes.specs.Codes.{code_of};

@@ -6,7 +6,7 @@ use native.Mathlib.Omega.{arith}
 use lib.ListN.{length}
 use lib.Dec.{eqb, leb}
 use borrow.Author.Tests.{leb-true}
-use Rattle.lists.specs.Firsts.{◌then◌, unless}
+use Rattle.lists.specs.Firsts.{unless}
 use Rattle.lists.proofs.Firsts.{unless_none, then_none}
 use Rattle.refusal.specs.declared.Refusal.{Refusal}
 use Rattle.refusal.specs.declared.Refusal.TheVariants.{Room, Length}

@@ -1,4 +1,6 @@
 // The decoder of solver lists. The answers of the list maker, and what both promise, stand here too.
+#![tactic(auto)]
+
 ghost use Rattle.std.specs.Prelude.{◌≡◌, ◌≤◌, length};
 ghost use Rattle.std.proofs.lemmas.List.Edits.{sets};
 ghost use Rattle.lists.specs.Stores.{Wrote};
@@ -18,14 +20,14 @@ use refusal::Refusal;
 use table::Counts;
 
 // The cost of the plan that was written, or why nothing was.
-#[derive(Drop)]
+#[derive(Clone, Copy)]
 pub enum Decoded {
     Cost(u64),
     Refused(Refusal),
 }
 
 // The length of the list that was written, or why nothing was.
-#[derive(Drop)]
+#[derive(Clone, Copy)]
 pub enum Made {
     Written(usize),
     Refused(Refusal),

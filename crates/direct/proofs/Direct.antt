@@ -2,7 +2,7 @@
 use mathlib.Core.Path.{◌≡◌, refl, ap}
 use mathlib.Core.Bool.{true, false}
 use mathlib.Core.List.{List, [], ◌∷◌, ◌++◌, flat_map}
-use Prim.Native.Nat.{ℕ, ◌+◌}
+use Prim.Native.Nat.{ℕ, ◌+◌, ◌^◌, ◌<◌}
 use native.Mathlib.Omega.{arith}
 use lib.ListN.{length}
 use lib.IntN.{pos}
@@ -29,6 +29,10 @@ module _ (e : End) (j i : ℕ) where
       → entries_of (direct_at e j i) ≡ (neg (value_from e.own j) ∷ []) ++ ((neg (value_from e.other i) ∷ []) ++ (pos 0 ∷ []))
   unfolding direct_at
   forbidden_text p = rw p (entries_one _)
+
+  -- room for its clause is room for its three entries
+  pub forbidden_room : (at : ℕ) → e.ok j i ≡ false → at + length (entries_of (direct_at e j i)) < 2 ^ 64 → at + 3 < 2 ^ 64
+  forbidden_room at p h = rw (forbidden_text p) at h
 
 pub row_text : (e : End) (j : ℕ) → text_from (direct_at e j) e.theirs 1 ≡ entries_of (direct_row e j)
 unfolding direct_row

@@ -1,4 +1,6 @@
 // encode: one sheet on standard input, its WCNF text on standard output, part by part. A refusal prints one line and nothing else.
+#![tactic(auto)]
+
 ghost use Rattle.std.specs.Prelude.{◌≡◌, ◌^◌, ◌≤◌, ◌<◌, length};
 ghost use Rattle.table.specs.Table.{In};
 ghost use Rattle.table.specs.Words.{box_count, Accepted, PairStands};
@@ -8,23 +10,25 @@ use asked::Asked;
 use clause::{Encoding, Hard, Side};
 use refusal::Refusal;
 use sheet_in::ReadSheet;
+use std::io::Write;
 use table::Counts;
 
 // Text is gathered until 65536 bytes are full. No part is longer than that, so a buffer of twice as many holds what stands there and the
 // next part. A cursor of 65536 says that a write failed: then no more is put and no more is written.
-fn drained(text: &[u8], at: usize) -> usize
+fn drained(to: &mut impl Write, text: &[u8], at: usize) -> usize
     ensures { result ≤ 65536 }
 {
     if at < 65536 {
         return at;
     }
-    if prints::send(text, at) {
+    if prints::send(to, text, at) {
         return 0;
     }
     65536
 }
 
 fn print_box(
+    to: &mut impl Write,
     words: &[u32],
     n: u32,
     part: Hard,
@@ -45,10 +49,11 @@ fn print_box(
         return at;
     }
     let end = wcnf_parts::put_box(words, n, part, b, top, clauses, text, at);
-    drained(text, end)
+    drained(to, text, end)
 }
 
 fn print_boxes(
+    to: &mut impl Write,
     words: &[u32],
     n: u32,
     part: Hard,
@@ -63,13 +68,14 @@ fn print_boxes(
     let mut at = from;
     let mut b = 1;
     while b <= n {
-        at = print_box(words, n, part, b, top, clauses, text, at);
+        at = print_box(to, words, n, part, b, top, clauses, text, at);
         b += 1;
     }
     at
 }
 
 fn print_pair(
+    to: &mut impl Write,
     words: &[u32],
     side: Side,
     switch: u32,
@@ -92,10 +98,11 @@ fn print_pair(
         return at;
     }
     let end = wcnf_parts::put_pair(words, side, switch, pair, first, second, clauses, text, at);
-    drained(text, end)
+    drained(to, text, end)
 }
 
 fn print_pairs(
+    to: &mut impl Write,
     words: &[u32],
     counts: Counts,
     part: Hard,
@@ -121,7 +128,9 @@ fn print_pairs(
     let mut k = 0;
     while k < p {
         switch += 1;
-        end = print_pair(words, side, switch, at, first, second, clauses, text, end);
+        end = print_pair(
+            to, words, side, switch, at, first, second, clauses, text, end,
+        );
         at = totals::next_pair(words, at);
         k += 1;
     }
@@ -129,7 +138,7 @@ fn print_pairs(
 }
 
 // The header, the boxes and the pairs of a checked table.
-fn print_all(words: &[u32], counts: Counts, e: Encoding)
+fn print_all(to: &mut impl Write, words: &[u32], counts: Counts, e: Encoding)
     requires { Counted words.now counts }
 {
     let part = e.hard;
@@ -148,8 +157,9 @@ fn print_all(words: &[u32], counts: Counts, e: Encoding)
         needed.clauses as u64,
         top,
     );
-    let boxes = print_boxes(words, n, part, top, &mut clauses, &mut text, head);
+    let boxes = print_boxes(to, words, n, part, top, &mut clauses, &mut text, head);
     let end = print_pairs(
+        to,
         words,
         counts,
         part,
@@ -161,33 +171,34 @@ fn print_all(words: &[u32], counts: Counts, e: Encoding)
         boxes,
     );
     if end < 65536 {
-        prints::send(&text, end);
+        prints::send(to, &text, end);
     }
 }
 
-fn print_words(words: &[u32], hard: u32, side: u32) {
+fn print_words(to: &mut impl Write, words: &[u32], hard: u32, side: u32) {
     match asked::ask(words, hard, side) {
-        Asked::Refused(f) => prints::refuse(f),
-        Asked::Ready(e, counts) => print_all(words, counts, e),
+        Asked::Refused(f) => prints::refuse(to, f),
+        Asked::Ready(e, counts) => print_all(to, words, counts, e),
     }
 }
 
 // A table has at most 2 words, 64 sizes and 256 pairs of 19 words.
-fn judge(sheet: &[u8]) {
+fn judge(to: &mut impl Write, sheet: &[u8]) {
     let mut table = [0u32; 4930];
     match sheet_in::read_sheet(sheet, &mut table) {
-        ReadSheet::Refused(f) => prints::refuse(f),
-        ReadSheet::Read(hard, side, n) => print_words(&table[..n], hard, side),
+        ReadSheet::Refused(f) => prints::refuse(to, f),
+        ReadSheet::Read(hard, side, n) => print_words(to, &table[..n], hard, side),
     }
 }
 
 // One byte more than a sheet may have tells a longer input.
-fn main() {
+fn main(rt: HostRuntime) {
+    let mut to = rt.stdout();
     let mut input = [0u8; 65537];
-    let got = io::read_full(0, &mut input);
+    let got = prints::read_full(&mut rt.stdin(), &mut input);
     if got > 65536 {
-        prints::refuse(Refusal::Room(0));
+        prints::refuse(&mut to, Refusal::Room(0));
         return;
     }
-    judge(&input[..got]);
+    judge(&mut to, &input[..got]);
 }

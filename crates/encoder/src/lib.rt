@@ -1,4 +1,6 @@
 // The clause list of a table, into lent buffers. Everything is judged, by counts, before the first store.
+#![tactic(auto)]
+
 ghost use Rattle.table.specs.Words.{table_of, judged};
 ghost use Rattle.table.specs.Answers.{Counted};
 ghost use Rattle.clause.specs.Encodings.{picked_of};
@@ -11,7 +13,7 @@ use refusal::Refusal;
 use room::Fit;
 use table::Counts;
 
-#[derive(Drop)]
+#[derive(Clone, Copy)]
 pub enum Encoded {
     Written(Written),
     Refused(Refusal),

@@ -1,4 +1,6 @@
 // One end of a pair: the pair at a cursor as one of its two boxes sees it. What is written from either box is written once, over this.
+#![tactic(auto)]
+
 ghost use Rattle.std.specs.Prelude.{◌≡◌, length};
 ghost use Rattle.table.specs.Table.{In};
 ghost use Rattle.clause.specs.Ends.{supports};
@@ -6,7 +8,7 @@ ghost use Rattle.ends.specs.Seen.{end_of, SeenWell};
 
 // How many variables stand before the box's own values and before the other box's, and how many values each has.
 // `turned`: it is the second box that sees the pair.
-#[derive(Drop)]
+#[derive(Clone, Copy)]
 pub struct Seen {
     pub at: usize,
     pub own: u32,

@@ -1,6 +1,8 @@
 // The library for programs in other languages: each entry point over numbers and slices, a slice being a pointer and a length.
 // The answer is 0, or a refusal's number and place in one number; lengths and costs go into lent slots, on success alone.
 // include/wickcollar.h declares these functions and says what each promises.
+#![tactic(auto)]
+
 ghost use Rattle.std.specs.Prelude.{◌≡◌, [], ◌∷◌, length};
 ghost use Rattle.table.specs.Words.{judged};
 ghost use Rattle.clause.specs.Encodings.{picked_of};

@@ -1,5 +1,7 @@
 // Lent buffers filled with one number: scratch with zeros, and the weights of a part's clauses. As in puts, a store past the buffer's
 // end moves the cursor alone.
+#![tactic(auto)]
+
 ghost use Rattle.std.specs.Prelude.{◌≡◌, [], ◌∷◌, ◌+◌, ◌^◌, ◌<◌, replicate};
 ghost use Rattle.lists.specs.Stores.{Wrote};
 ghost use Rattle.fills.specs.Zeros.{zeros};

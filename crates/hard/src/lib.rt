@@ -1,4 +1,6 @@
 // The hard part of one box, standard or regular as it is asked for: how long it is, and its clauses in a lent buffer.
+#![tactic(auto)]
+
 ghost use Rattle.std.specs.Prelude.{◌≡◌, ◌+◌, ◌^◌, ◌≤◌, ◌<◌, length};
 ghost use Rattle.lists.specs.Stores.{Wrote};
 ghost use Rattle.clause.specs.Clause.{entries_of};
@@ -9,7 +11,7 @@ ghost use Rattle.hard.specs.Tallies.{box_tally_lem};
 use clause::Hard;
 
 // How many clauses and literals the hard part of a box has.
-#[derive(Drop)]
+#[derive(Clone, Copy)]
 pub struct Tally {
     pub clauses: usize,
     pub literals: usize,

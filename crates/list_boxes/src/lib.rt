@@ -1,4 +1,6 @@
 // A box in a solver's list: whether its hard clauses are true, and the value that it holds.
+#![tactic(auto)]
+
 ghost use Rattle.std.specs.Prelude.{◌≡◌, cond, ◌+◌, ◌^◌, ◌≤◌, ◌<◌, length, get_or};
 ghost use Rattle.table.specs.Table.{In};
 ghost use Rattle.table.specs.Words.{box_count, table_of, Accepted};
@@ -86,6 +88,7 @@ fn steps_say(list: &[u8], base: u32, m: u32, a: u32) -> bool
 }
 
 // A box holds one value, and on the regular part its thresholds say which.
+#[tactic(auto, using(crate::proofs::Counted::count_wrong))]
 fn counted_ok(list: &[u8], hard: Hard, values: u32, steps: u32, m: u32) -> bool
     requires { (values + m + 1 < 2 ^ 32) × (steps + m + 1 < 2 ^ 32) }
     ensures { result ≡ counted_ok_lem hard (reads list.now) values steps m }

@@ -1,4 +1,6 @@
 // The characters of a list line, stored as the entries of a list.
+#![tactic(auto)]
+
 ghost use Rattle.std.specs.Prelude.{◌≡◌};
 ghost use Rattle.std.proofs.lemmas.List.Edits.{sets};
 ghost use Rattle.list_entries.specs.Entries.{entry_of_lem, entries_of};

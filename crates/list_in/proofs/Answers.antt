@@ -5,7 +5,6 @@ use Prim.Native.Nat.{ℕ, ◌+◌}
 use lib.ListN.{length, take, drop}
 use lib.Seq.{drop-drop}
 use Rattle.refusal.specs.declared.Refusal.{Refusal}
-use Rattle.refusal.specs.declared.Refusal.TheVariants.{Line}
 use Rattle.sheet_in.specs.Parsed as sheets
 use Rattle.sheet_in.specs.Parsed.{sheet, parsed}
 use Rattle.list_scan.specs.declared.ListLine.TheVariants.{Entries, Bad, More}

@@ -1,5 +1,7 @@
 // Reads what `decode` is given: a house sheet and one more line, the list. The sheet is judged first, from the top, and then the list line; the
 // table is read into local words, since how long the list has to be follows from it, and a refusal writes nothing.
+#![tactic(auto)]
+
 ghost use Rattle.std.specs.Prelude.{◌≡◌, ◌≤◌, length, drop};
 ghost use Rattle.table.specs.Words.{Accepted};
 ghost use Rattle.sheet_in.specs.Parsed.{parsed, sheet};

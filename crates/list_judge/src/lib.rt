@@ -1,4 +1,6 @@
 // Judges a solver's list: its length, its entries, and the hard clauses of each box.
+#![tactic(auto)]
+
 ghost use Rattle.std.specs.Prelude.{◌≡◌};
 ghost use Rattle.table.specs.Words.{table_of, Accepted};
 ghost use Rattle.plan.specs.Plan.{judged_of};

@@ -1,9 +1,11 @@
 // The list line of a text, found at its place.
+#![tactic(auto)]
+
 ghost use Rattle.std.specs.Prelude.{◌≡◌, cond, ◌-◌, ◌≤◌, drop, eqb};
 ghost use Rattle.list_scan.specs.ListLines.{line_start_lem, bit_count_lem, line_found};
 
 // What stands below the sheet: a list line with so many entries and nothing after it, no list line, or a list line and more.
-#[derive(Drop)]
+#[derive(Clone, Copy)]
 pub enum ListLine {
     Entries(usize),
     Bad,

@@ -1,4 +1,6 @@
 // A list that was read, judged by the table that was read with it, and both stored: what is left when the sheet and its list line are fine.
+#![tactic(auto)]
+
 ghost use Rattle.std.specs.Prelude.{◌≡◌};
 ghost use Rattle.table.specs.Words.{Accepted};
 ghost use Rattle.list_entries.specs.Entries.{entries_of};
@@ -9,7 +11,7 @@ use clause::Picked;
 use refusal::Refusal;
 
 // The hard part's and the side's number, how many words the table has and how many entries the list, or the refusal.
-#[derive(Drop)]
+#[derive(Clone, Copy)]
 pub enum ReadList {
     Read(u32, u32, usize, usize),
     Refused(Refusal),

@@ -1,5 +1,7 @@
 // What knows nothing of boxes: laws on lists, sums, stores, bits and decimal digits stand in specs/ and proofs/.
 // The code is the two readings of a word that every crate above shares.
+#![tactic(auto)]
+
 ghost use Rattle.std.specs.Prelude.{◌≡◌, ◌<◌, length, get_or};
 
 // A word as a length or an index.

@@ -1,4 +1,6 @@
 // The list maker: the list of 0 and 1 that a plan is, in any of the ten encodings.
+#![tactic(auto)]
+
 ghost use Rattle.std.specs.Prelude.{◌≡◌, ◌+◌, ◌^◌, ◌≤◌, ◌<◌, length, replicate};
 ghost use Rattle.lists.specs.Stores.{Wrote};
 ghost use Rattle.table.specs.Words.{table_of, judged, Accepted};
@@ -18,7 +20,7 @@ use refusal::Refusal;
 use table::Counts;
 
 // Which variables of a box a row is for.
-#[derive(Drop)]
+#[derive(Clone, Copy)]
 enum Part {
     Values,
     Thresholds,

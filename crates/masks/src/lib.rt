@@ -1,4 +1,6 @@
 // What a pair of an accepted table allows, read from its masks where they stand.
+#![tactic(auto)]
+
 ghost use Rattle.std.specs.Prelude.{◌≡◌, ◌+◌, get_or};
 ghost use Rattle.lists.specs.Lists.{nth};
 ghost use Rattle.table.specs.Table.{allowed, In};

@@ -1,4 +1,6 @@
 // The exact lengths of a table's clause list, counted without writing anything, and what the scratch buffers must hold.
+#![tactic(auto)]
+
 ghost use Rattle.std.specs.Prelude.{◌≡◌, max};
 ghost use Rattle.table.specs.Words.{table_of, judged, pair_at, Accepted, PairStands};
 ghost use Rattle.table.specs.Answers.{Counted};
@@ -12,7 +14,7 @@ use refusal::Refusal;
 use table::Counts;
 
 // Variables, clauses, literals without and with their closing zeros, and the top of the text.
-#[derive(Drop)]
+#[derive(Clone, Copy)]
 pub struct Lengths {
     pub variables: usize,
     pub clauses: usize,
@@ -22,19 +24,19 @@ pub struct Lengths {
 }
 
 // What the two scratch buffers must hold.
-#[derive(Drop)]
+#[derive(Clone, Copy)]
 pub struct Scratch {
     pub first: usize,
     pub second: usize,
 }
 
-#[derive(Drop)]
+#[derive(Clone, Copy)]
 pub enum Measured {
     Lengths(Lengths),
     Refused(Refusal),
 }
 
-#[derive(Drop)]
+#[derive(Clone, Copy)]
 pub enum Needed {
     Scratch(Scratch),
     Refused(Refusal),

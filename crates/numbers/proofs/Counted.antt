@@ -8,7 +8,7 @@ use lib.ListN.{length, get_or, take, length-map}
 use lib.Seq.{take-suc, take-length}
 use Rattle.lists.specs.Lists.{sum_of, before, Each}
 use Rattle.lists.proofs.Lists.{sum_append}
-use Rattle.table.specs.Table.{boxes, In}
+use Rattle.table.specs.Table.{In}
 use Rattle.table.specs.Words.{box_count, pair_count, size_at, table_of, Accepted}
 use Rattle.table.proofs.Words.{accepted_parts}
 use Rattle.table.proofs.Tables.{table_boxes, table_count, table_size}

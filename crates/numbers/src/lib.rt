@@ -1,4 +1,6 @@
 // The numbers of the variables, counted from the words.
+#![tactic(auto)]
+
 ghost use Rattle.std.specs.Prelude.{◌≡◌, ◌+◌};
 ghost use Rattle.table.specs.Table.{In};
 ghost use Rattle.table.specs.Words.{box_count, pair_count, table_of, Accepted};

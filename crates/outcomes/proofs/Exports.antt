@@ -4,8 +4,8 @@ use mathlib.Core.List.{List, [], ◌∷◌}
 use Prim.Native.Nat.{ℕ}
 use Rattle.outcomes.specs.Decided.{Decided}
 use Rattle.outcomes.proofs.Law.{same, decided}
-use Rattle.codes.proofs as codes
-use Rattle.exports.proofs as exports
+use Rattle.codes
+use Rattle.exports
 
 -- slot by slot
 abbrev Same : List ℕ → List ℕ → Type 0
@@ -20,22 +20,22 @@ all_same (a ∷ xs) = (λ i. a, all_same xs)
 slots : {xs ys : List ℕ} → xs ≡ ys → Same xs ys
 slots {xs} e = subst (λ (ys : List ℕ). Same xs ys) e (all_same xs)
 
-pub codes_code_decided : Decided codes.code.ended codes.code.Reads.Post
+pub codes_code_decided : Decided codes.specs.contracts.code.ended codes.proofs.code.Reads.Post
 codes_code_decided = decided λ _ _ _ _ p q. search same
 
-pub exports_wickcollar_check_decided : Decided exports.wickcollar_check.ended exports.wickcollar_check.Reads.Post
+pub exports_wickcollar_check_decided : Decided exports.specs.contracts.wickcollar_check.ended exports.proofs.wickcollar_check.Reads.Post
 exports_wickcollar_check_decided = decided λ _ _ _ _ p q. (same p.code q.code, slots (same p.slots q.slots))
 
-pub exports_wickcollar_cost_decided : Decided exports.wickcollar_cost.ended exports.wickcollar_cost.Reads.Post
+pub exports_wickcollar_cost_decided : Decided exports.specs.contracts.wickcollar_cost.ended exports.proofs.wickcollar_cost.Reads.Post
 exports_wickcollar_cost_decided = decided λ _ _ _ _ p q. (same p.code q.code, slots (same p.slots q.slots))
 
-pub exports_wickcollar_lengths_decided : Decided exports.wickcollar_lengths.ended exports.wickcollar_lengths.Reads.Post
+pub exports_wickcollar_lengths_decided : Decided exports.specs.contracts.wickcollar_lengths.ended exports.proofs.wickcollar_lengths.Reads.Post
 exports_wickcollar_lengths_decided = decided λ _ _ _ _ p q. (same p.code q.code, slots (same p.slots q.slots))
 
-pub exports_wickcollar_scratch_lengths_decided : Decided exports.wickcollar_scratch_lengths.ended exports.wickcollar_scratch_lengths.Reads.Post
+pub exports_wickcollar_scratch_lengths_decided : Decided exports.specs.contracts.wickcollar_scratch_lengths.ended exports.proofs.wickcollar_scratch_lengths.Reads.Post
 exports_wickcollar_scratch_lengths_decided = decided λ _ _ _ _ p q. (same p.code q.code, slots (same p.slots q.slots))
 
-pub exports_wickcollar_encode_decided : Decided exports.wickcollar_encode.ended exports.wickcollar_encode.Reads.Post
+pub exports_wickcollar_encode_decided : Decided exports.specs.contracts.wickcollar_encode.ended exports.proofs.wickcollar_encode.Reads.Post
 exports_wickcollar_encode_decided = decided λ _ _ _ _ p q. (
   same p.told.code q.told.code,
   (
@@ -50,23 +50,23 @@ exports_wickcollar_encode_decided = decided λ _ _ _ _ p q. (
   ),
 )
 
-pub exports_wickcollar_decode_decided : Decided exports.wickcollar_decode.ended exports.wickcollar_decode.Reads.Post
+pub exports_wickcollar_decode_decided : Decided exports.specs.contracts.wickcollar_decode.ended exports.proofs.wickcollar_decode.Reads.Post
 exports_wickcollar_decode_decided = decided λ _ _ _ _ p q. (same p.0.code q.0.code, (same p.1 q.1, slots (same p.0.slots q.0.slots)))
 
-pub exports_wickcollar_make_list_decided : Decided exports.wickcollar_make_list.ended exports.wickcollar_make_list.Reads.Post
+pub exports_wickcollar_make_list_decided : Decided exports.specs.contracts.wickcollar_make_list.ended exports.proofs.wickcollar_make_list.Reads.Post
 exports_wickcollar_make_list_decided = decided λ _ _ _ _ p q. (same p.0.code q.0.code, (same p.1 q.1, slots (same p.0.slots q.0.slots)))
 
-pub exports_wickcollar_read_sheet_decided : Decided exports.wickcollar_read_sheet.ended exports.wickcollar_read_sheet.Reads.Post
+pub exports_wickcollar_read_sheet_decided : Decided exports.specs.contracts.wickcollar_read_sheet.ended exports.proofs.wickcollar_read_sheet.Reads.Post
 exports_wickcollar_read_sheet_decided = decided λ _ _ _ _ p q. (same p.0.code q.0.code, (same p.1 q.1, slots (same p.0.slots q.0.slots)))
 
-pub exports_wickcollar_write_sheet_decided : Decided exports.wickcollar_write_sheet.ended exports.wickcollar_write_sheet.Reads.Post
+pub exports_wickcollar_write_sheet_decided : Decided exports.specs.contracts.wickcollar_write_sheet.ended exports.proofs.wickcollar_write_sheet.Reads.Post
 exports_wickcollar_write_sheet_decided = decided λ _ _ _ _ p q. (same p.0.code q.0.code, (same p.1 q.1, slots (same p.0.slots q.0.slots)))
 
-pub exports_wickcollar_read_list_decided : Decided exports.wickcollar_read_list.ended exports.wickcollar_read_list.Reads.Post
+pub exports_wickcollar_read_list_decided : Decided exports.specs.contracts.wickcollar_read_list.ended exports.proofs.wickcollar_read_list.Reads.Post
 exports_wickcollar_read_list_decided = decided λ _ _ _ _ p q.
     (same p.0.code q.0.code, (same p.1 q.1, (same p.2 q.2, slots (same p.0.slots q.0.slots))))
 
-pub exports_wickcollar_write_wcnf_decided : Decided exports.wickcollar_write_wcnf.ended exports.wickcollar_write_wcnf.Reads.Post
+pub exports_wickcollar_write_wcnf_decided : Decided exports.specs.contracts.wickcollar_write_wcnf.ended exports.proofs.wickcollar_write_wcnf.Reads.Post
 exports_wickcollar_write_wcnf_decided = decided λ _ _ _ _ p q. (
   same p.told.code q.told.code,
   (

@@ -17,11 +17,11 @@ same p q = p ∙ sym q
 -- of an argument that is lent to be written, that both leave the same in it; of any other nothing is asked
 abbrev AlikeAt : {D : Type 0} (e : Exit D) (x : D) → Last e x → Last e x → Type 0 → Type 0
 AlikeAt unchanged x u v Rest = Rest
-AlikeAt (leaves Last left Seen see) x u v Rest = (u ≡ v) × Rest
+AlikeAt (leaves L l S s r₀) x u v Rest = (u ≡ v) × Rest
 
 alike_at : {D : Type 0} (e : Exit D) (x : D) (u v : Last e x) {Rest : Type 0} → AlikeAt e x u v Rest → (u ≡ v) × Rest
 alike_at unchanged x u v r = (λ i. tt, r)
-alike_at (leaves Last left Seen see) x u v r = r
+alike_at (leaves L l S s r₀) x u v r = r
 
 module _ {n : ℕ} (κs : Lfts n) where
   abbrev Alike : (ss : List (Slot n)) (ks : Kepts ss) (a : Denots (types_at ss κs)) → Fins κs ss ks a → Fins κs ss ks a → Type 0

@@ -1,25 +1,25 @@
 -- Decided by the inputs: a solver's list to a plan, and a plan to a list.
 use Rattle.outcomes.specs.Decided.{Decided}
 use Rattle.outcomes.proofs.Law.{same, decided}
-use Rattle.list_boxes.proofs as list-boxes
-use Rattle.list_judge.proofs as list-judge
-use Rattle.decoder.proofs as decoder
-use Rattle.maker.proofs as maker
+use Rattle.list_boxes
+use Rattle.list_judge
+use Rattle.decoder
+use Rattle.maker
 
-pub list_boxes_box_ok_decided : Decided list-boxes.box_ok.ended list-boxes.box_ok.Reads.Post
+pub list_boxes_box_ok_decided : Decided list_boxes.specs.contracts.box_ok.ended list_boxes.proofs.box_ok.Reads.Post
 list_boxes_box_ok_decided = decided λ _ _ _ _ p q. search same
 
-pub list_boxes_value_of_decided : Decided list-boxes.value_of.ended list-boxes.value_of.Reads.Post
+pub list_boxes_value_of_decided : Decided list_boxes.specs.contracts.value_of.ended list_boxes.proofs.value_of.Reads.Post
 list_boxes_value_of_decided = decided λ _ _ _ _ p q. search same
 
-pub list_judge_variables_decided : Decided list-judge.variables.ended list-judge.variables.Reads.Post
+pub list_judge_variables_decided : Decided list_judge.specs.contracts.variables.ended list_judge.proofs.variables.Reads.Post
 list_judge_variables_decided = decided λ _ _ _ _ p q. search same
 
-pub list_judge_judge_decided : Decided list-judge.judge.ended list-judge.judge.Reads.Post
+pub list_judge_judge_decided : Decided list_judge.specs.contracts.judge.ended list_judge.proofs.judge.Reads.Post
 list_judge_judge_decided = decided λ _ _ _ _ p q. search same
 
-pub decoder_decode_decided : Decided decoder.decode.ended decoder.decode.Reads.Post
+pub decoder_decode_decided : Decided decoder.specs.contracts.decode.ended decoder.proofs.decode.Reads.Post
 decoder_decode_decided = decided λ _ _ _ _ p q. search same
 
-pub maker_make_list_decided : Decided maker.make_list.ended maker.make_list.Reads.Post
+pub maker_make_list_decided : Decided maker.specs.contracts.make_list.ended maker.proofs.make_list.Reads.Post
 maker_make_list_decided = decided λ _ _ _ _ p q. search same

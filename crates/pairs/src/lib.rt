@@ -1,4 +1,6 @@
 // What the clauses of a pair of an accepted table come to on each side.
+#![tactic(auto)]
+
 ghost use Rattle.std.specs.Prelude.{◌≡◌, [], ◌+◌, length};
 ghost use Rattle.table.specs.Words.{Accepted, PairStands};
 ghost use Rattle.table.specs.Words.{pair_at, table_of};

@@ -1,4 +1,6 @@
 // The cost of a plan: the sum of the weights of the pairs that it breaks.
+#![tactic(auto)]
+
 ghost use Rattle.std.specs.Prelude.{◌≡◌, ◌+◌, ◌≤◌, ◌<◌, length};
 ghost use Rattle.lists.specs.Lists.{nth};
 ghost use Rattle.table.specs.Table.{boxes};
@@ -11,14 +13,14 @@ use reader::PairHead;
 use refusal::Refusal;
 use table::{Checked, Counts};
 
-#[derive(Drop)]
+#[derive(Clone, Copy)]
 pub enum Costed {
     Cost(u64),
     Refused(Refusal),
 }
 
 // Whether a plan, or one value of it, is as it should be.
-#[derive(Drop)]
+#[derive(Clone, Copy)]
 pub enum Judged {
     Fine,
     Wrong(Refusal),

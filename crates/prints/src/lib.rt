@@ -1,17 +1,41 @@
-// What the two programs write to standard output.
-use refusal::Refusal;
+// What the programs read from standard input, and what they write to standard output.
+#![tactic(auto)]
 
-// The first `n` bytes, in one piece; false if a write failed.
-pub fn send(text: &[u8], n: usize) -> bool {
+ghost use Rattle.std.specs.Prelude.{◌≤◌, length, take};
+ghost use Rattle.std.specs.Bool.{OnTrue};
+ghost use Rattle.std.specs.Io.KnownBytes.{Appends, Consumes};
+
+use refusal::Refusal;
+use std::io::{Read, Write};
+
+// Reads until the buffer is full, the input ends or a read fails, and returns how many bytes were read.
+pub fn read_full<R: Read>(input: &mut R, buf: &mut [u8]) -> usize
+    ensures bound { result ≤ length buf.new }
+    ensures bytes { Consumes (R.remaining input.old) (R.remaining input.new) (take result buf.new) }
+{
+    let mut done = 0;
+    while done < buf.len() {
+        match input.read(&mut buf[done..]) {
+            Ok(n) if n > 0 => done += n,
+            _ => break,
+        }
+    }
+    done
+}
+
+// Writes the first `n` bytes, in one piece; false if there are not so many, or a write failed.
+pub fn send<W: Write>(to: &mut W, text: &[u8], n: usize) -> bool
+    ensures { OnTrue result (Appends (W.contents to.old) (W.contents to.new) (take n text.now)) }
+{
     if n <= text.len() {
-        return io::write_all(1, &text[..n]);
+        return to.write_all(&text[..n]).is_ok();
     }
     false
 }
 
 // The one line of a refusal.
-pub fn refuse(f: Refusal) {
+pub fn refuse(to: &mut impl Write, f: Refusal) {
     let mut line = [0u8; 38];
     let n = refusal_out::put_refused(&mut line, 0, f);
-    send(&line, n);
+    send(to, &line, n);
 }

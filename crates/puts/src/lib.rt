@@ -1,5 +1,7 @@
 // The stores of literals into lent buffers, of which every writer of clauses is made. A cursor goes in and the next one comes out; a store past the
 // buffer's end moves the cursor alone, so that what is written never depends on what was judged about the room.
+#![tactic(auto)]
+
 ghost use Rattle.std.specs.Prelude.{◌≡◌, [], ◌∷◌, ◌+◌, ◌^◌, ◌<◌, length, pos};
 ghost use Rattle.lists.specs.Stores.{Wrote};
 ghost use Rattle.puts.specs.Signed.{neg};

@@ -1,10 +1,12 @@
 // Reads an accepted table pair by pair with a cursor, the index of a pair's first word. No mask is copied.
+#![tactic(auto)]
+
 ghost use Rattle.std.specs.Prelude.{◌≡◌};
 ghost use Rattle.table.specs.Words.{PairStands};
 ghost use Rattle.reader.specs.Reader.{head_at_lem, stepped};
 
 // A pair but for its masks, and the cursor before the next pair.
-#[derive(Drop)]
+#[derive(Clone, Copy)]
 pub struct PairHead {
     pub first: u32,
     pub second: u32,
@@ -13,7 +15,7 @@ pub struct PairHead {
 }
 
 // A reader over a lent table: its words, and the cursor before the pair that comes next.
-#[derive(Drop)]
+#[derive(Clone, Copy)]
 pub struct Reader<'a> {
     pub words: &'a [u32],
     pub at: usize,

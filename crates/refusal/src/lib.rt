@@ -1,9 +1,11 @@
 // The refusals of document 01: every crate above answers with these.
+#![tactic(auto)]
+
 ghost use Rattle.std.specs.Prelude.{◌≡◌};
 ghost use Rattle.refusal.specs.Refusals.{number_of, place_of};
 
 // A refusal of document 01, with its place: a case for each row of the document's list, in its order.
-#[derive(Drop)]
+#[derive(Clone, Copy)]
 pub enum Refusal {
     Missing(usize),
     Extra(usize),

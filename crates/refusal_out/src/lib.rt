@@ -1,4 +1,6 @@
 // The line that either program prints of a refusal, put into a lent slice of bytes as text_out puts.
+#![tactic(auto)]
+
 ghost use Rattle.std.specs.Prelude.{◌+◌, ◌^◌, ◌<◌};
 ghost use Rattle.lists.specs.Stores.{Wrote};
 ghost use Rattle.refusal_out.specs.Refused.{refused_line};

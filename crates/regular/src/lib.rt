@@ -1,4 +1,6 @@
 // The regular hard part of one box, written into a lent buffer: a chain of thresholds, and each value bound to those beside it.
+#![tactic(auto)]
+
 ghost use Rattle.std.specs.Prelude.{[], ◌∷◌, ◌+◌, ◌^◌, ◌≤◌, ◌<◌, length};
 ghost use Rattle.lists.specs.Stores.{Wrote};
 ghost use Rattle.clause.specs.Clause.{closed, entries_of};

@@ -1,11 +1,13 @@
 // Whether the lent buffers hold what is to be written: the first that is too short, in the document's order.
+#![tactic(auto)]
+
 ghost use Rattle.std.specs.Prelude.{◌≡◌};
 ghost use Rattle.room.specs.Room.{two_fault, clauses_fault, text_fault, fit_of};
 
 use measure::{Lengths, Scratch};
 use refusal::Refusal;
 
-#[derive(Drop)]
+#[derive(Clone, Copy)]
 pub enum Fit {
     Enough,
     Short(Refusal),

@@ -1,4 +1,6 @@
 // The row of an allow line put into a lent slice of bytes, as text_out puts a line; row_scan reads it back.
+#![tactic(auto)]
+
 ghost use Rattle.std.specs.Prelude.{◌+◌, ◌^◌, ◌<◌, length};
 ghost use Rattle.lists.specs.Stores.{Wrote};
 ghost use Rattle.text_out.specs.Texts.{bits_of, row_of};

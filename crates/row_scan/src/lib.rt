@@ -1,4 +1,6 @@
 // A row of 0 and 1 characters, value 1 leftmost, found in a slice of bytes at a place: the line of a pair that says which values go together.
+#![tactic(auto)]
+
 ghost use Rattle.std.specs.Prelude.{◌≡◌, true, ◌+◌, ◌-◌, ◌≤◌, get_or, drop};
 ghost use Rattle.row_scan.specs.Rows.{is_row, value_of, row_at};
 
@@ -29,8 +31,8 @@ fn is_row(s: &[u8], at: usize, m: usize) -> bool
 
 // The bit of value `j`, of the `m` values whose row stands at `at`.
 fn bit_of(s: &[u8], at: usize, m: usize, j: usize) -> u64
-    requires s_value { is_row m (drop at s.now) ≡ true }
-    requires le_j { (1 ≤ j) × (j ≤ m) }
+    requires row_stands { is_row m (drop at s.now) ≡ true }
+    requires bit_in { (1 ≤ j) × (j ≤ m) }
     ensures { (result ≡ get_or s.now (at + (j - 1)) 0 - 48) × (result ≤ 1) }
 {
     let i = at + (j - 1);
@@ -39,8 +41,8 @@ fn bit_of(s: &[u8], at: usize, m: usize, j: usize) -> u64
 
 // The mask of the row that stands at `at`, from its last character, which is the highest bit, to its first.
 fn mask_of(s: &[u8], at: usize, m: usize) -> u32
-    requires s_value { is_row m (drop at s.now) ≡ true }
-    requires m_bound { m ≤ 32 }
+    requires row_stands { is_row m (drop at s.now) ≡ true }
+    requires few_bits { m ≤ 32 }
     ensures { result ≡ value_of m (drop at s.now) }
 {
     let mut j = m;

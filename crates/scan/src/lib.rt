@@ -1,10 +1,12 @@
 // Text found in a slice of bytes at a place. The grammar is what is written (text_out): a line is found exactly where its text stands.
+#![tactic(auto)]
+
 ghost use Rattle.std.specs.Prelude.{◌≡◌, ◌<◌, drop};
 ghost use Rattle.scan.specs.Stands.{begins};
 ghost use Rattle.scan.specs.Lines.{digits_at_lem, number_at, line_at, word_at};
 
 // What reading a line finds: its number and the index past it, or that no such line stands there.
-#[derive(Drop)]
+#[derive(Clone, Copy)]
 pub enum Line {
     Found(u32, usize),
     Fault,

@@ -1,4 +1,6 @@
 // The house sheet as a text (specs/), and its lines put into a lent slice of bytes.
+#![tactic(auto)]
+
 ghost use Rattle.std.specs.Prelude.{◌+◌, ◌^◌, ◌<◌, length};
 ghost use Rattle.lists.specs.Stores.{Wrote};
 ghost use Rattle.text_out.specs.Texts.{line_of, row_of};

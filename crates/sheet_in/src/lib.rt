@@ -1,5 +1,7 @@
 // Reads a house sheet into a lent table of words. The pairs are read twice, the first time into a table of one word, so that a refusal
 // writes nothing.
+#![tactic(auto)]
+
 ghost use Rattle.std.specs.Prelude.{◌≡◌, ◌+◌, ◌≤◌, length};
 ghost use Rattle.sheet_parts.specs.Reading.{values_at, Sized};
 ghost use Rattle.sheet_in.specs.Parsed.{on_sizes, rest_at, parsed, read_of, table_left};
@@ -9,7 +11,7 @@ use scan::Line;
 use sheet_parts::Step;
 
 // The hard part's and the side's number and how many words the table has, or the refusal.
-#[derive(Drop)]
+#[derive(Clone, Copy)]
 pub enum ReadSheet {
     Read(u32, u32, usize),
     Refused(Refusal),

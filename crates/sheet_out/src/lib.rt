@@ -1,4 +1,6 @@
 // Writes the house sheet of a table. The sheet is measured first, by the same function lent one byte, so that a refusal writes nothing.
+#![tactic(auto)]
+
 ghost use Rattle.std.specs.Prelude.{◌≡◌, ◌+◌, ◌^◌, ◌<◌, length};
 ghost use Rattle.lists.specs.Stores.{Wrote};
 ghost use Rattle.table.specs.Words.{pair_at, pairs_at, table_of, PairStands, Ahead};
@@ -13,7 +15,7 @@ use reader::PairHead;
 use refusal::Refusal;
 use table::Counts;
 
-#[derive(Drop)]
+#[derive(Clone, Copy)]
 pub enum Written {
     Text(usize),
     Refused(Refusal),

@@ -1,5 +1,7 @@
 // Reads the sizes and the pairs of a house sheet into lent words. Each line is one word; so reading carries two cursors, one in the text
 // and one in the words, and a faulty line is known by the word that it would have given.
+#![tactic(auto)]
+
 ghost use Rattle.std.specs.Prelude.{◌≡◌, ◌∷◌, ◌++◌, ◌+◌, ◌≤◌, length};
 ghost use Rattle.std.proofs.lemmas.List.Edits.{sets};
 ghost use Rattle.lists.specs.Lists.{nth};
@@ -9,7 +11,7 @@ ghost use Rattle.sheet_parts.specs.Reading.{words, values_at, rows_at, pair_at, 
 use scan::Line;
 
 // Where reading goes on, in the text and in the words; or the word whose line is faulty.
-#[derive(Drop)]
+#[derive(Clone, Copy)]
 pub enum Step {
     Next(usize, usize),
     Bad(usize),

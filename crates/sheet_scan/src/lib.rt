@@ -1,4 +1,6 @@
 // The lines of the house sheet found in a text, each at its place.
+#![tactic(auto)]
+
 ghost use Rattle.std.specs.Prelude.{◌≡◌, ◌≤◌};
 ghost use Rattle.scan.specs.Lines.{line_at};
 ghost use Rattle.row_scan.specs.Rows.{row_at};

@@ -1,4 +1,6 @@
 // A pair of an accepted table as each of its two boxes sees it, with the numbers of their variables.
+#![tactic(auto)]
+
 ghost use Rattle.std.specs.Prelude.{◌≡◌};
 ghost use Rattle.table.specs.Words.{Accepted, PairStands};
 ghost use Rattle.clause.specs.Ends.{one};

@@ -1,5 +1,7 @@
 // The standard hard part of one box, written into a lent buffer, and the clauses that it shares with the regular one. A function for
 // each piece of the definitions, and its loops count from where the definitions count, so that code and definition speak of the same numbers.
+#![tactic(auto)]
+
 ghost use Rattle.std.specs.Prelude.{[], ◌∷◌, ◌+◌, ◌^◌, ◌≤◌, ◌<◌, length};
 ghost use Rattle.lists.specs.Stores.{Wrote};
 ghost use Rattle.clause.specs.Clause.{coded, closed, entries_of};
@@ -8,7 +10,7 @@ ghost use Rattle.clause.specs.Hard.{one_of, standard_box};
 ghost use Rattle.standard.specs.Writers.{lit_of, number_of, apart_from, apart};
 
 // A variable or its negation, so that the clauses of two and of three literals are written by one function each.
-#[derive(Drop)]
+#[derive(Clone, Copy)]
 pub enum Literal {
     Plus(u32),
     Minus(u32),

@@ -1,5 +1,7 @@
 // Bytes and words put into lent slices. A cursor goes in and the next one comes out; what is past the slice's end moves the cursor alone, so
-// that the same function measures and writes. Literals are put so in puts and weights in fills: the language has no generics.
+// that the same function measures and writes. Literals are put so in puts and weights in fills.
+#![tactic(auto)]
+
 ghost use Rattle.std.specs.Prelude.{[], ◌∷◌, ◌+◌, ◌^◌, ◌<◌, length};
 ghost use Rattle.lists.specs.Stores.{Wrote};
 

@@ -2,7 +2,7 @@
 use mathlib.Core.Path.{◌≡◌, ap, ◌∙◌}
 use mathlib.Core.Bool.{true, false}
 use mathlib.Core.List.{List, [], ◌∷◌, ◌++◌, map, map-append, append_assoc}
-use Prim.Native.Nat.{ℕ, ◌+◌, ◌-◌, ◌≤◌, ◌<◌}
+use Prim.Native.Nat.{ℕ, ◌+◌, ◌-◌, ◌^◌, ◌≤◌, ◌<◌}
 use native.Mathlib.Omega.{arith}
 use lib.ListN.{length, length-append}
 use lib.IntN.{ℤ, pos}
@@ -14,9 +14,11 @@ use Rattle.clause.specs.Ends.{End, supports, full, support_at, support_clauses}
 use Rattle.puts.specs.Signed.{neg}
 use Rattle.ends.proofs.Values.{flat_all}
 use Rattle.lists.proofs.Runs.{count_turn, count_end, count_all}
-use Rattle.ends.proofs.Ends.{clause_none, clause_one}
+use Rattle.ends.proofs.Ends.{clause_none, clause_one, full_yes, full_no}
 use Rattle.ends.proofs.Texts.{entries_one, text_from}
 use Rattle.clause.proofs.Lengths.{entries_of_none}
+use Rattle.ends.specs.declared.Seen.{Seen}
+use Rattle.ends.specs.Seen.{end_of}
 use Rattle.support.specs.Tails.{supporter}
 
 -- ---- one value's support
@@ -61,6 +63,17 @@ module _ (e : End) (tail : Clause) (j : ℕ) where
   pub value_long : full e j ≡ false → length (entries_of (support_at e tail j)) ≡ length (map coded (supports e j)) + length (map coded tail) + 2
   value_long p =
       rw (value_partly p, length-append (map coded (supports e j)), length-append (map coded tail)) (omega arith)
+
+-- where as many values support it as the other box has, it has no text
+pub full_text : (ws : List ℕ) (s : Seen) (tail : Clause) (j n : ℕ) → n ≡ length (supports (end_of ws s) j) → n ≡ s.theirs
+    → entries_of (support_at (end_of ws s) tail j) ≡ []
+full_text ws s tail j n p q = value_full (end_of ws s) tail j (full_yes (end_of ws s) j p q)
+
+-- where not so many do, room for its clause is room for each part
+pub value_room : (ws : List ℕ) (s : Seen) (tail : Clause) (j n at : ℕ) → n ≡ length (supports (end_of ws s) j) → (n ≡ s.theirs → ⊥)
+    → at + length (entries_of (support_at (end_of ws s) tail j)) < 2 ^ 64
+    → at + (length (map coded (supports (end_of ws s) j)) + length (map coded tail) + 2) < 2 ^ 64
+value_room ws s tail j n at p d h = omega (arith, h, value_long (end_of ws s) tail j (full_no (end_of ws s) j p d))
 
 -- ---- all values
 

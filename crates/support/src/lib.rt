@@ -1,4 +1,6 @@
 // The support clauses of a pair from one of its ends, whichever it is.
+#![tactic(auto)]
+
 ghost use Rattle.std.specs.Prelude.{map, ◌+◌, ◌^◌, ◌<◌, length};
 ghost use Rattle.lists.specs.Stores.{Wrote};
 ghost use Rattle.table.specs.Table.{In};
@@ -10,7 +12,7 @@ ghost use Rattle.support.specs.Tails.{supporter, tail_of, TailFits};
 use ends::Seen;
 
 // What ends each clause: nothing, a variable or its negation.
-#[derive(Drop)]
+#[derive(Clone, Copy)]
 pub enum Tail {
     Bare,
     Plus(u32),
@@ -58,6 +60,7 @@ fn put_tail(tail: Tail, out: &mut [i32], at: usize) -> usize
 }
 
 // Value `j`'s clause. It has none where all values of the other box support it: how many these are is the other box's to say.
+#[tactic(auto, using(crate::proofs::Support::full_text))]
 fn put_support_value(
     words: &[u32],
     seen: Seen,

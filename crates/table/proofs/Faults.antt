@@ -7,7 +7,7 @@ use native.Mathlib.Omega.{arith}
 use lib.ListN.{length, get_or}
 use lib.Dec.{leb}
 use borrow.Author.Tests.{le-leb, lt-leb}
-use Rattle.lists.specs.Firsts.{◌then◌, unless, first_of}
+use Rattle.lists.specs.Firsts.{unless, first_of}
 use Rattle.lists.proofs.Truth.{order}
 use Rattle.lists.proofs.Foremost.{Clear, First, nothing, something, first_then, first_one, first_run}
 use Rattle.refusal.specs.declared.Refusal.{Refusal}

@@ -9,7 +9,7 @@ use lib.ListN.{length, get_or, take, drop, length-drop}
 use lib.Seq.{length-take-le}
 use lib.Dec.{ltb, leb}
 use borrow.Author.Tests.{ltb-true, leb-true, eqb-true, eqb-false, not-true}
-use Rattle.lists.specs.Firsts.{◌then◌, unless, first_of}
+use Rattle.lists.specs.Firsts.{unless, first_of}
 use Rattle.lists.proofs.Bits.{shift_none}
 use Rattle.lists.proofs.Firsts.{unless_none, then_none, first_each}
 use Rattle.refusal.specs.declared.Refusal.{Refusal}

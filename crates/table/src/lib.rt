@@ -1,18 +1,20 @@
 // The table of boxes and weighted pairs: what its words mean (specs/), what their check answers, and a box's domain size.
+#![tactic(auto)]
+
 ghost use Rattle.std.specs.Prelude.{◌≡◌};
 ghost use Rattle.table.specs.Words.{size_at, BoxStands};
 
 use refusal::Refusal;
 
 // How many boxes and pairs a table has.
-#[derive(Drop)]
+#[derive(Clone, Copy)]
 pub struct Counts {
     pub boxes: usize,
     pub pairs: usize,
 }
 
 // What the check of words answers.
-#[derive(Drop)]
+#[derive(Clone, Copy)]
 pub enum Checked {
     Accepted(Counts),
     Refused(Refusal),

@@ -1,4 +1,6 @@
 // The check of a table: its words are read left to right, to the first fault or to their end.
+#![tactic(auto)]
+
 ghost use Rattle.std.specs.Prelude.{◌≡◌, ◌+◌, ◌^◌, ◌≤◌, ◌<◌, length, get_or};
 ghost use Rattle.std.proofs.Math.Option.{none};
 ghost use Rattle.table.specs.Words.{
@@ -23,14 +25,14 @@ use refusal::Refusal;
 use table::{Checked, Counts};
 
 // A word that was read, or what is wrong with it.
-#[derive(Drop)]
+#[derive(Clone, Copy)]
 enum Got {
     Value(u32),
     Wrong(Refusal),
 }
 
 // Where reading goes on, or what stops it.
-#[derive(Drop)]
+#[derive(Clone, Copy)]
 enum Step {
     Next(usize),
     Stop(Refusal),

@@ -1,4 +1,6 @@
 // Text put into a lent slice of bytes: numbers and lines, as stores puts a byte.
+#![tactic(auto)]
+
 ghost use Rattle.std.specs.Prelude.{◌+◌, ◌^◌, ◌<◌, length};
 ghost use Rattle.lists.specs.Stores.{Wrote};
 ghost use Rattle.lists.specs.Decimal.{digits};

@@ -1,7 +1,7 @@
 -- Where the loops over the boxes and over the pairs start, all is ahead.
 use mathlib.Core.Path.{◌≡◌, sym, ap, ◌∙◌}
 use mathlib.Core.List.{List}
-use Prim.Native.Nat.{ℕ, ◌+◌, ◌-◌}
+use Prim.Native.Nat.{ℕ, ◌+◌}
 use Rattle.table.specs.declared.Counts.{Counts}
 use Rattle.table.specs.Words.{box_count, table_of, Accepted}
 use Rattle.table.specs.Answers.{Counted}

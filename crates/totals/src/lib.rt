@@ -1,4 +1,6 @@
 // Totals over all boxes and all pairs of a table: the clauses and literals of each part of the list, and the weights.
+#![tactic(auto)]
+
 ghost use Rattle.std.specs.Prelude.{◌≡◌, ◌≤◌};
 ghost use Rattle.table.specs.Words.{table_of, box_count, pair_next, Accepted, PairStands};
 ghost use Rattle.table.specs.Answers.{Counted};

@@ -1,4 +1,6 @@
 // The lines of clauses in WCNF text (specs/), put into a lent slice of bytes from clauses as they stand in a clause list.
+#![tactic(auto)]
+
 ghost use Rattle.std.specs.Prelude.{◌≡◌, ◌+◌, ◌*◌, ◌^◌, ◌≤◌, ◌<◌, length, take, nat_abs};
 ghost use Rattle.lists.specs.Stores.{Wrote};
 ghost use Rattle.lists.specs.Decimal.{signed};

@@ -1,4 +1,6 @@
 // The header of WCNF text, put into a lent slice of bytes.
+#![tactic(auto)]
+
 ghost use Rattle.std.specs.Prelude.{◌+◌, ◌^◌, ◌≤◌, ◌<◌, length};
 ghost use Rattle.lists.specs.Stores.{Wrote};
 ghost use Rattle.wcnf.specs.Wcnf.{ended, header_text};

@@ -1,4 +1,6 @@
 // WCNF text of a table, into a lent slice of bytes. It is measured first, so that a refusal writes nothing.
+#![tactic(auto)]
+
 ghost use Rattle.std.specs.Prelude.{◌≡◌, ◌≤◌, length};
 ghost use Rattle.table.specs.Words.{table_of, judged};
 ghost use Rattle.table.specs.Answers.{Counted};
@@ -16,7 +18,7 @@ use refusal::Refusal;
 use room::Fit;
 use table::Counts;
 
-#[derive(Drop)]
+#[derive(Clone, Copy)]
 pub enum Written {
     Text(usize),
     Refused(Refusal),

@@ -1,4 +1,6 @@
 // The WCNF lines of one box or one pair, by way of a lent slice that holds the part's clauses: for a program that prints part by part.
+#![tactic(auto)]
+
 ghost use Rattle.std.specs.Prelude.{◌≡◌, [], ◌∷◌, ◌+◌, ◌^◌, ◌≤◌, ◌<◌, length};
 ghost use Rattle.std.proofs.lemmas.List.Edits.{sets};
 ghost use Rattle.lists.specs.Stores.{Wrote};

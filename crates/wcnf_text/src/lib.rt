@@ -1,5 +1,7 @@
 // The whole WCNF text of a table from the lines of its boxes and pairs, into a lent slice of bytes. Its length is taken by the same
 // function, lent one byte and scratch of its own.
+#![tactic(auto)]
+
 ghost use Rattle.std.specs.Prelude.{◌≡◌, ◌+◌, ◌^◌, ◌≤◌, ◌<◌, length};
 ghost use Rattle.lists.specs.Stores.{Wrote};
 ghost use Rattle.table.specs.Words.{box_count, table_of, Accepted};

@@ -1,7 +1,7 @@
 -- The weights of the pairs, which do not depend on the hard part.
 use mathlib.Core.Path.{◌≡◌, refl, sym, ap, ap₂, ◌∙◌}
 use mathlib.Core.List.{List, [], ◌∷◌, ◌++◌}
-use Prim.Native.Nat.{ℕ, suc, ◌+◌, ◌-◌, ◌<◌}
+use Prim.Native.Nat.{ℕ, suc, ◌+◌, ◌<◌}
 use lib.ListN.{length, replicate}
 use Rattle.table.specs.Table.{Table, Pair}
 use Rattle.table.specs.Words.{pair_at, pair_next, table_of}

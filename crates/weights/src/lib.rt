@@ -1,4 +1,6 @@
 // The weights of the clause list, part by part, into a lent buffer.
+#![tactic(auto)]
+
 ghost use Rattle.std.specs.Prelude.{◌≡◌, ◌+◌, ◌^◌, ◌<◌, length, replicate};
 ghost use Rattle.lists.specs.Stores.{Wrote};
 ghost use Rattle.table.specs.Words.{box_count, pair_at, table_of, Accepted, PairStands};

@@ -1,4 +1,6 @@
 // The whole clause list from its two parts, into lent buffers, and the scratch put in order after it.
+#![tactic(auto)]
+
 ghost use Rattle.std.specs.Prelude.{◌≡◌, ◌^◌, ◌≤◌, ◌<◌, length};
 ghost use Rattle.lists.specs.Stores.{Wrote};
 ghost use Rattle.table.specs.Words.{table_of};

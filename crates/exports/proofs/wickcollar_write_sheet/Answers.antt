@@ -1,0 +1,15 @@
+-- The answer is taken apart, and either way what it says is known.
+use Rattle.sheet_out.specs.Written.{written_says}
+use Rattle.exports.proofs.Told.{told_refused, told_given}
+use mathlib.Core.Path.{refl, sym, ap, ◌∙◌}
+use Rattle.exports.proofs.wickcollar_write_sheet.Goals as goal
+
+pub returns-in-Refused : goal.returns-in-Refused
+returns-in-Refused c =
+    let e = c.write_sheet.ensures in
+    (told_refused (ap written_says (sym e.0 ∙ c.in-Refused.is)) c.code.ensures refl, e.1)
+
+pub returns-in-Text : goal.returns-in-Text
+returns-in-Text c =
+    let e = c.write_sheet.ensures in
+    (told_given (ap written_says (sym e.0 ∙ c.in-Text.is)), e.1)

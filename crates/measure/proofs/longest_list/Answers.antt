@@ -1,0 +1,62 @@
+-- The longest so far and the longest ahead make the longest of all.
+use Rattle.measure.proofs.Measuring.{longest_turn, longest_last, longest_all}
+use Rattle.measure.specs.Measures.{which_by}
+use Rattle.clause.specs.Lengths.{candidate_length_lem}
+use Rattle.table.proofs.Tables.{counted_start}
+use Rattle.table.proofs.Words.{ahead_turn}
+use Rattle.table.specs.Words.{table_of}
+use Prim.Native.Nat.{◌-◌, max}
+use mathlib.Core.Path.{◌≡◌, ap, ◌∙◌}
+use native.Mathlib.Nat.{sub-zero}
+use native.Mathlib.Omega.{arith}
+use Rattle.measure.proofs.longest_list.Goals as goal
+
+pub overflow_add-at : goal.overflow_add-at
+overflow_add-at c =
+    let b = counted_start c.args.words.now c.args.counts c.requires in
+    omega (arith, b.boxes, b.few_boxes)
+
+pub loop-k-init : goal.loop-k-init
+loop-k-init c =
+    let ws = c.args.words.now in
+    let b = counted_start ws c.args.counts c.requires in (
+      omega arith,
+      omega (arith, b.pairs, b.few_pairs),
+      rw sub-zero b.ahead,
+      rw (sub-zero, b.pairs, b.boxes) (longest_all (candidate_length_lem (table_of ws) (which_by c.args.second)) ws),
+    )
+
+pub candidate-requires : goal.candidate-requires
+candidate-requires c =
+    let ws = c.args.words.now in
+    let p = c.args.counts.pairs in
+    let turn = ahead_turn ws p c.loop-k.k c.loop-k.at c.loop-k-test.true c.loop-k.invariant.2 in
+    (c.requires.table, turn.0)
+
+pub next_pair-at-requires : goal.next_pair-at-requires
+next_pair-at-requires c =
+    let ws = c.args.words.now in
+    let p = c.args.counts.pairs in
+    let turn = ahead_turn ws p c.loop-k.k c.loop-k.at c.loop-k-test.true c.loop-k.invariant.2 in
+    turn.0
+
+pub loop-k-preserved : goal.loop-k-preserved
+loop-k-preserved c =
+    let ws = c.args.words.now in
+    let p = c.args.counts.pairs in
+    let turn = ahead_turn ws p c.loop-k.k c.loop-k.at c.loop-k-test.true c.loop-k.invariant.2 in
+    let f = candidate_length_lem (table_of ws) (which_by c.args.second) in
+    let new = c.larger-best.ensures ∙ ap (max c.loop-k.best) c.candidate.ensures in (
+      omega (arith, c.loop-k-test.true),
+      c.loop-k.invariant.1,
+      rw c.next_pair-at.ensures turn.1,
+      rw (c.next_pair-at.ensures, new)
+          (longest_turn f ws p c.loop-k.k c.loop-k.at c.loop-k.best _ c.loop-k-test.true c.loop-k.invariant.3),
+    )
+
+pub returns : goal.returns
+returns c =
+    let ws = c.args.words.now in
+    let z : c.args.counts.pairs - c.loop-k.k ≡ 0 = omega arith in
+    longest_last (candidate_length_lem (table_of ws) (which_by c.args.second)) ws c.args.counts.pairs c.loop-k.k
+    c.loop-k.at c.loop-k.best _ z c.loop-k.invariant.3

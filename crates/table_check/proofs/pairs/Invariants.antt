@@ -1,0 +1,11 @@
+-- What the pairs ahead give is what all of them give.
+use Rattle.table.specs.Words.{pairs_fault, pairs_end}
+use Prim.Native.Nat.{◌-◌, ◌≤◌}
+use mathlib.Core.Path.{◌≡◌}
+use Rattle.table_check.proofs.pairs.Given as goal
+
+abbrev pub invariant-loop-k : goal.invariant-loop-k
+invariant-loop-k l = (l.k ≤ l.p) × (pairs_fault l.words l.n (l.p - l.k) l.at ≡ pairs_fault l.words l.n l.p l.from) × (pairs_end l.words (l.p - l.k) l.at ≡ pairs_end l.words l.p l.from)
+
+abbrev pub decreases-loop-k : goal.decreases-loop-k
+decreases-loop-k l = l.p - l.k

@@ -1,0 +1,79 @@
+-- What is counted and what the boxes ahead come to make up the hard part.
+use Rattle.totals.proofs.Starts.{hard_start}
+use Rattle.totals.proofs.Counting.{makes_all, makes_turn, makes_none, box_tally_is, box_few, few_part}
+use Rattle.hard.specs.Tallies.{box_tally_lem}
+use Rattle.clause.proofs.Turns.{hard_turn, hard_end}
+use Rattle.table.proofs.Tables.{accepted_box}
+use Rattle.table.proofs.Words.{accepted_parts}
+use Rattle.table.specs.Words.{table_of}
+use mathlib.Core.Path.{ap, ◌∙◌}
+use native.Mathlib.Omega.{arith}
+use Rattle.totals.proofs.hard_tally.Goals as goal
+
+pub loop-b-init : goal.loop-b-init
+loop-b-init c = (
+  omega arith,
+  omega arith,
+  makes_all (hard_start c.args.hard c.args.words.now c.args.n c.requires.0 c.requires.1),
+  omega arith,
+  omega arith,
+)
+
+pub size-requires : goal.size-requires
+size-requires c = accepted_box c.args.words.now c.loop-b.b c.requires.0 (c.loop-b.invariant.0, omega (arith, c.requires.1, c.loop-b-test.true))
+
+pub box_tally-part-requires : goal.box_tally-part-requires
+box_tally-part-requires c =
+    let B = accepted_box c.args.words.now c.loop-b.b c.requires.0 (c.loop-b.invariant.0, omega (arith, c.requires.1, c.loop-b-test.true)) in
+    (omega (arith, c.size.ensures, B.values.0), omega (arith, c.size.ensures, B.values.1))
+
+pub overflow_add-clauses : goal.overflow_add-clauses
+overflow_add-clauses c =
+    let ws = c.args.words.now in
+    let A = c.requires.0 in
+    let B = accepted_box ws c.loop-b.b A (c.loop-b.invariant.0, omega (arith, c.requires.1, c.loop-b-test.true)) in
+    let part = c.box_tally-part.ensures ∙ ap (box_tally_lem c.args.hard) c.size.ensures ∙ box_tally_is c.args.hard ws A c.loop-b.b B in
+    let few = few_part _ part (box_few c.args.hard ws A c.loop-b.b B) in
+    let boxes = (accepted_parts ws A).boxes.range.1 in
+    omega (arith, few.0, c.loop-b.invariant.3, boxes, c.requires.1, c.loop-b-test.true)
+
+pub overflow_add-literals : goal.overflow_add-literals
+overflow_add-literals c =
+    let ws = c.args.words.now in
+    let A = c.requires.0 in
+    let B = accepted_box ws c.loop-b.b A (c.loop-b.invariant.0, omega (arith, c.requires.1, c.loop-b-test.true)) in
+    let part = c.box_tally-part.ensures ∙ ap (box_tally_lem c.args.hard) c.size.ensures ∙ box_tally_is c.args.hard ws A c.loop-b.b B in
+    let few = few_part _ part (box_few c.args.hard ws A c.loop-b.b B) in
+    let boxes = (accepted_parts ws A).boxes.range.1 in
+    omega (arith, few.1, c.loop-b.invariant.4, boxes, c.requires.1, c.loop-b-test.true)
+
+pub overflow_add-b : goal.overflow_add-b
+overflow_add-b c =
+    let ws = c.args.words.now in
+    let A = c.requires.0 in
+    let B = accepted_box ws c.loop-b.b A (c.loop-b.invariant.0, omega (arith, c.requires.1, c.loop-b-test.true)) in
+    let part = c.box_tally-part.ensures ∙ ap (box_tally_lem c.args.hard) c.size.ensures ∙ box_tally_is c.args.hard ws A c.loop-b.b B in
+    let few = few_part _ part (box_few c.args.hard ws A c.loop-b.b B) in
+    let boxes = (accepted_parts ws A).boxes.range.1 in
+    omega (arith, boxes, c.requires.1, c.loop-b-test.true)
+
+pub loop-b-preserved : goal.loop-b-preserved
+loop-b-preserved c =
+    let ws = c.args.words.now in
+    let A = c.requires.0 in
+    let B = accepted_box ws c.loop-b.b A (c.loop-b.invariant.0, omega (arith, c.requires.1, c.loop-b-test.true)) in
+    let part = c.box_tally-part.ensures ∙ ap (box_tally_lem c.args.hard) c.size.ensures ∙ box_tally_is c.args.hard ws A c.loop-b.b B in
+    let few = few_part _ part (box_few c.args.hard ws A c.loop-b.b B) in
+    let boxes = (accepted_parts ws A).boxes.range.1 in (
+      omega arith,
+      omega (arith, c.loop-b-test.true),
+      makes_turn _ part (hard_turn c.args.hard (table_of ws) c.args.n c.loop-b.b c.loop-b-test.true) c.loop-b.invariant.2,
+      omega (arith, few.0, c.loop-b.invariant.3, c.loop-b.invariant.0),
+      omega (arith, few.1, c.loop-b.invariant.4, c.loop-b.invariant.0),
+    )
+
+pub returns : goal.returns
+returns c =
+    let end = hard_end c.args.hard (table_of c.args.words.now) c.args.n c.loop-b.b c.loop-b-test.false in
+    let boxes = (accepted_parts c.args.words.now c.requires.0).boxes.range.1 in
+    (makes_none end c.loop-b.invariant.2, omega (arith, c.loop-b.invariant, boxes, c.requires.1), omega (arith, c.loop-b.invariant, boxes, c.requires.1))

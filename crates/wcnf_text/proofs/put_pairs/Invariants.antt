@@ -1,0 +1,26 @@
+-- What the pairs ahead have is still owed, with whichever hard part the number of c_1 comes from.
+use Rattle.wcnf_text.proofs.Texts.{Shows}
+use Rattle.parts.proofs.Scratch.{asked, Leaves}
+use Rattle.clause.specs.Ends.{one, two}
+use Rattle.table.specs.Words.{Ahead}
+use lib.ListN.{length}
+use Prim.Native.Nat.{◌+◌, ◌*◌, ◌-◌, ◌≤◌}
+use mathlib.Core.Path.{◌≡◌}
+use Rattle.wcnf_text.proofs.put_pairs.Given as goal
+
+abbrev pub invariant-loop-k : goal.invariant-loop-k
+invariant-loop-k l =
+    (l.k ≤ l.p)
+    × (l.p ≤ 256)
+    × Ahead l.words (l.p - l.k) l.at
+    × (l.switch ≡ l.initial.switch + l.k)
+    × Shows l.side l.words l.p l.initial.text l.from l.initial.switch l.text l.end l.at l.k
+    × (asked l.side one l.words (l.p - l.k) l.at ≤ length l.first)
+    × (asked l.side two l.words (l.p - l.k) l.at ≤ length l.second)
+    × Leaves l.side one l.words (l.p - l.k) l.at l.initial.first l.first
+    × Leaves l.side two l.words (l.p - l.k) l.at l.initial.second l.second
+    × (length l.clauses ≡ length l.initial.clauses)
+    × (l.end ≤ l.from + 65536 * l.k)
+
+abbrev pub decreases-loop-k : goal.decreases-loop-k
+decreases-loop-k l = l.p - l.k
