@@ -33,7 +33,7 @@ class Program:
     def __init__(self, path):
         shown = answer("x86_64-linux-gnu-objdump", "-d", "--no-show-raw-insn", path)
         if not shown:
-            stop("x86_64-linux-gnu-objdump is missing; it comes with gcc-x86-64-linux-gnu")
+            stop("x86_64-linux-gnu-objdump is missing; it comes with binutils")
         self.known = [int(at, 16) for at in re.findall(r"^ +([0-9a-f]+):\t", shown, re.M)]
         self.main = int(re.search(r"^([0-9a-f]+) <main>:", shown, re.M)[1], 16)
         self.long = {}
@@ -41,12 +41,14 @@ class Program:
     def see_blocks(self, command, text):
         at = None
         for line in logged(command, "in_asm", text):
-            start = re.match(rb"0x([0-9a-f]+):", line)
-            if start:
-                at = int(start[1], 16)
+            found = re.match(rb"0x([0-9a-f]+): *((?:[0-9a-f]{2} )*)", line)
+            if not found:
+                at = None  # a line between two blocks
+                continue
+            if at is None:
+                at = int(found[1], 16)
                 self.long[at] = 0
-            elif line.startswith(b"OBJD-T:"):
-                self.long[at] += len(line.split()[1]) // 2
+            self.long[at] += len(found[2]) // 3
 
     def count(self, command, text):
         """The instructions of one run."""

@@ -3,7 +3,7 @@
  * The functions are proved: each takes any numbers and any contents of the buffers, never reads or writes outside what it is lent, and ends.
  * docs/PROMISES.md has each promise with its theorem; crates/exports/src/lib.rt has the contracts that this page says in words.
  *
- * Link an x86-64 Linux program with target/staticlib/libexports.a, which 'rt staticlib exports' proves and writes. It needs memset of the C
+ * Link an x86-64 Linux program with target/staticlib/libexports.a, which 'tools/build exports_c' proves and writes. It needs memset of the C
  * library and nothing else, and keeps nothing between calls.
  *
  * What a caller owes, since no function can test it:

@@ -1,7 +1,7 @@
 //! Wickcollar for Rust: the functions of wickcollar.h, safe, and with nothing else to depend on.
 //!
 //! A station takes this file into its own program (`#[path = ".../wickcollar.rs"] mod wickcollar;`) and links it, on x86-64, with
-//! `-L native=target/staticlib`, where `rt staticlib exports` writes the archive. Each function says what it gives; wickcollar.h says more,
+//! `-L native=target/staticlib`, where `tools/build exports_c` writes the archive. Each function says what it gives; wickcollar.h says more,
 //! and what each refusal means. Rust sees to what C callers owe: its slices are whole and do not overlap. For edition 2021 and earlier.
 
 #![allow(dead_code)] // a program need not call every function

@@ -1,12 +1,15 @@
-"""Holds what include/wickcollar.h and include/wickcollar.rs declare to the functions that crates/exports marks #[no_mangle].
+"""Holds what include/wickcollar.h and include/wickcollar.rs declare to the functions that crates/exports_c marks #[unsafe(no_mangle)], and
+what these promise to the functions of the same names in crates/exports.
 
 C and Rust link a wrong declaration in silence. So each function must stand in all three with the same parameters in the same order, where a
-slice of the crate is a pointer and a length; and the wrapper must pass what it declares, and have the header's numbers.
+slice of the crate is a pointer and a length; and the wrapper must pass what it declares, and have the header's numbers. The theorems are about
+the functions of crates/exports, since no crate can build on a static library: so those of exports_c must have their clauses, word for word.
 """
 import re
 from pathlib import Path
 
-CRATE, HEADER, WRAPPER = 'crates/exports/src/lib.rt', 'include/wickcollar.h', 'include/wickcollar.rs'
+CRATE, LIBRARY = 'crates/exports_c/src/lib.rt', 'crates/exports/src/lib.rt'
+HEADER, WRAPPER = 'include/wickcollar.h', 'include/wickcollar.rs'
 C_TYPES = {'uint8_t': 'u8', 'uint32_t': 'u32', 'int32_t': 'i32', 'uint64_t': 'u64', 'size_t': 'usize'}
 
 
@@ -77,6 +80,19 @@ def call_faults(name, parameters, arguments):
     return faults
 
 
+def promised(text):
+    """Of each function for other programs its parameters and clauses, and the names that stand in clauses, each with what it is."""
+    heads = {name: ' '.join(head.split()) for head, name in re.findall(r'(?ms)^pub extern "C" (fn (\w+)\(.*?)\n?\{\n', text)}
+    uses = re.findall(r'^ghost use ([^\s{};]+?)(?:\.\{([^}]*)\})?( as \w+)?;$', text, re.M)
+    return heads, {path + '.' * bool(one) + one + alias for path, names, alias in uses for one in parts(names) or ['']}
+
+
+def promise_faults(crate, library):
+    (ours, uses), (theirs, known) = promised(crate), promised(library)
+    faults = [f'{CRATE}: {name} does not promise what it does in {LIBRARY}' for name in sorted(ours) if ours[name] != theirs.get(name)]
+    return faults + [f'{CRATE}: ghost use {one} is not in {LIBRARY}' for one in sorted(uses - known)]
+
+
 def numbers(header, wrapper):
     """The numbers that both have names for; the wrapper has no name for done."""
     ours = {name: int(value) for name, value in re.findall(r'#define WICKCOLLAR_(\w+) (?:UINT\d+_C\()?(\d+)', header)}
@@ -87,12 +103,13 @@ def numbers(header, wrapper):
 
 def check(root):
     """How many facts hold, and a line for each that does not."""
-    crate, header, wrapper = (without_comments(Path(root, file).read_text()) for file in (CRATE, HEADER, WRAPPER))
+    crate, library, header, wrapper = (without_comments(Path(root, file).read_text()) for file in (CRATE, LIBRARY, HEADER, WRAPPER))
     faults = []
-    ours = declared(CRATE, crate, r'#\[no_mangle\]\s*pub extern "C" fn (?P<name>\w+)\((?P<between>[^)]*)\) -> (?P<answer>\w+)', of_crate, faults)
+    ours = declared(CRATE, crate, r'#\[unsafe\(no_mangle\)\]\s*pub extern "C" fn (?P<name>\w+)\((?P<between>[^)]*)\) -> (?P<answer>\w+)', of_crate, faults)
     marks = max(crate.count('no_mangle'), crate.count('extern "C"'))
     if marks != len(ours) or not ours:
         faults.append(f'{CRATE} has {marks} marks for other programs, and {len(ours)} functions that can be read')
+    faults += promise_faults(crate, library)
     both = (
         (HEADER, declared(HEADER, header, r'(?m)^(?P<answer>\w+) (?P<name>\w+)\((?P<between>[^)]*)\);', of_header, faults)),
         (WRAPPER, declared(WRAPPER, wrapper, r'pub fn (?P<name>\w+)\((?P<between>[^)]*)\) -> (?P<answer>\w+);', of_wrapper, faults)),
@@ -108,7 +125,7 @@ def check(root):
     for name in sorted(in_header.keys() | in_wrapper.keys()):
         if in_header.get(name) != in_wrapper.get(name):
             faults.append(f'{name} is {in_header.get(name)} in {HEADER}, {in_wrapper.get(name)} in {WRAPPER}')
-    return max(0, 3 * len(ours) + len(in_header) - len(faults)), faults
+    return max(0, 4 * len(ours) + len(in_header) - len(faults)), faults
 
 
 def shown(function):

@@ -1,10 +1,15 @@
 """Shows that held.py can fail: a tiny crate, header and wrapper pass, and of each slip in them, that slip is found and nothing else."""
-from held import CRATE, HEADER, WRAPPER
+from held import CRATE, HEADER, LIBRARY, WRAPPER
 
+OF_HALF = ('#[unsafe(no_mangle)]\npub extern "C" fn w_half(words: &[u32], list: &mut [u8], left: &mut usize, right: &mut usize) -> u64\n'
+           '    ensures low { Half words.now result }\n    ensures high { told.Most list.new }\n')
+OF_SUM = '#[unsafe(no_mangle)]\npub extern "C" fn w_sum(\n    words: &[u32],\n    hard: u32,\n    sum: &mut u64,\n) -> u64 '
 GOOD = {
-    CRATE: '// none: #[no_mangle]\nfn own(x: u32) -> u64 {\n    0\n}\n\n'
-           '#[no_mangle]\npub extern "C" fn w_half(words: &[u32], list: &mut [u8], left: &mut usize, right: &mut usize) -> u64 {\n    0\n}\n\n'
-           '#[no_mangle]\npub extern "C" fn w_sum(\n    words: &[u32],\n    hard: u32,\n    sum: &mut u64,\n) -> u64 {\n    0\n}\n',
+    CRATE: 'ghost use Rattle.half.specs.Half.{Half, Whole};\nghost use Rattle.half.specs.Told as told;\n\n'
+           '// none: #[unsafe(no_mangle)]\nfn own(x: u32) -> u64 {\n    0\n}\n\n' +
+           OF_HALF + '{\n    exports::w_half(words, list, left, right)\n}\n\n' + OF_SUM + '{\n    exports::w_sum(words, hard, sum)\n}\n',
+    LIBRARY: 'ghost use Rattle.half.specs.Half.{Third, Half, Whole};\nghost use Rattle.half.specs.Told as told;\n\nuse half::Half;\n\n' +
+             OF_HALF + '{\n    1\n}\n\n' + OF_SUM + '{\n    0\n}\n',
     HEADER: '/* none: uint64_t w_other(size_t x); */\n#define WICKCOLLAR_DONE UINT64_C(0)\n#define WICKCOLLAR_FIRST UINT32_C(3)\n'
             '#define WICKCOLLAR_MOST 40\nstatic inline unsigned w_number(uint64_t answer) { return (unsigned)(answer >> 56); }\n'
             'uint64_t w_half(const uint32_t *words, size_t words_length, uint8_t *list, size_t list_length,\n'
@@ -34,16 +39,29 @@ def summed(file, theirs):
 
 
 SWAPPED = HALF.replace('left: *mut usize, right: *mut usize', 'right: *mut usize, left: *mut usize')
+UNLIKE = f'{CRATE}: w_half does not promise what it does in {LIBRARY}'
 SLIPS = [  # a file, what stands there, what stands there instead, and what is found
     (CRATE, 'left: &mut usize, right: &mut usize', 'right: &mut usize, left: &mut usize',
-     [other(file, 'w_half', f'({HALF}) -> u64', f'({SWAPPED}) -> u64') for file in (HEADER, WRAPPER)]),
+     [UNLIKE] + [other(file, 'w_half', f'({HALF}) -> u64', f'({SWAPPED}) -> u64') for file in (HEADER, WRAPPER)]),
     (CRATE, '    hard: u32,\n', '',
-     [other(file, 'w_sum', f'({SUM}) -> u64', f'({SUM.replace("hard: u32, ", "")}) -> u64') for file in (HEADER, WRAPPER)]),
-    (CRATE, 'fn own', '#[no_mangle]\npub extern "C" fn own', [other(file, 'own', 'not there', '(x: u32) -> u64') for file in (HEADER, WRAPPER)]),
-    (CRATE, 'fn own', 'pub extern "C" fn own', [f'{CRATE} has 3 marks for other programs, and 2 functions that can be read']),
+     [UNLIKE.replace('half', 'sum')]
+     + [other(file, 'w_sum', f'({SUM}) -> u64', f'({SUM.replace("hard: u32, ", "")}) -> u64') for file in (HEADER, WRAPPER)]),
+    (CRATE, 'fn own', '#[unsafe(no_mangle)]\npub extern "C" fn own',
+     [UNLIKE.replace('w_half', 'own')] + [other(file, 'own', 'not there', '(x: u32) -> u64') for file in (HEADER, WRAPPER)]),
+    (CRATE, 'fn own', 'pub extern "C" fn own',
+     [f'{CRATE} has 3 marks for other programs, and 2 functions that can be read', UNLIKE.replace('w_half', 'own')]),
+    (CRATE, '#[unsafe(no_mangle)]\npub extern "C" fn w_sum', '#[no_mangle]\npub extern "C" fn w_sum',
+     [f'{CRATE} has 2 marks for other programs, and 1 functions that can be read']
+     + [other(file, 'w_sum', f'({SUM}) -> u64', 'not there') for file in (HEADER, WRAPPER)]),
     (CRATE, 'list: &mut [u8]', 'list: &mut Vec<u8>',
-     [f'{CRATE}: w_half has a parameter that cannot be read: list: &mut Vec<u8>']
+     [f'{CRATE}: w_half has a parameter that cannot be read: list: &mut Vec<u8>', UNLIKE]
      + [other(file, 'w_half', f'({HALF}) -> u64', f'({HALF.replace("list: *mut u8, list_length: usize", "?")}) -> u64') for file in (HEADER, WRAPPER)]),
+    (CRATE, '    ensures low { Half words.now result }\n', '', [UNLIKE]),
+    (CRATE, 'Half words.now', 'Half words.old', [UNLIKE]),
+    (CRATE, '{Half, Whole}', '{Third as Half, Whole}', [f'{CRATE}: ghost use Rattle.half.specs.Half.Third as Half is not in {LIBRARY}']),
+    (CRATE, 'specs.Told as told', 'specs.Most as told', [f'{CRATE}: ghost use Rattle.half.specs.Most as told is not in {LIBRARY}']),
+    (LIBRARY, 'told.Most list.new', 'told.Most list.old', [UNLIKE]),
+    (LIBRARY, 'fn w_half', 'fn w_all', [UNLIKE]),
     (HEADER, 'size_t *left, size_t *right', 'size_t *right, size_t *left', [half(HEADER, SWAPPED)]),
     (HEADER, 'uint8_t *list', 'const uint8_t *list', [half(HEADER, HALF.replace('list: *mut', 'list: *const'))]),
     (HEADER, 'uint8_t *list', 'uint32_t *list', [half(HEADER, HALF.replace('*mut u8', '*mut u32'))]),

@@ -27,11 +27,11 @@ def theorems(root):
     decided, faults = set(), []
     for file in sorted(Path(root, 'crates/outcomes/proofs').glob('*.antt')):
         text = file.read_text()
-        crates = {short: crate for crate, short in re.findall(r'^use Rattle·(\w+)\.proofs as (\S+)$', text, re.M)}
-        for name, statement in re.findall(r'^pub (\S+-decided) : (.*)$', text, re.M):
-            said = re.fullmatch(r'Decided(?:By)? (\S+)\.(\w+)\.ended (?:.* )?\1\.\2\.Reads\.Post', statement)
+        crates = {short or crate: crate for crate, short in re.findall(r'^use Rattle\.(\w+)(?: as (\S+))?$', text, re.M)}
+        for name, statement in re.findall(r'^pub (\S+_decided) : (.*)$', text, re.M):
+            said = re.fullmatch(r'Decided(?:By)? (\S+)\.specs\.contracts\.(\w+)\.ended (?:.* )?\1\.proofs\.\2\.Reads\.Post', statement)
             function = said and (crates.get(said[1], 'none'), said[2])
-            if function and name == '-'.join(function).replace('_', '-') + '-decided':
+            if function and name == '_'.join(function) + '_decided':
                 decided.add(function)
             else:
                 faults.append(f'{file.relative_to(root)}: {name} does not say of the function in its name that it is decided')
@@ -40,7 +40,7 @@ def theorems(root):
 
 def check(root):
     """How much is as it has to be, and a line for each thing that is not."""
-    crates = {line.split(':')[0] for line in Path(root, 'crates.txt').read_text().splitlines() if re.match(r'\w+:', line)}
+    crates = set(re.findall(r'^(\w+)(?: staticlib)?:', Path(root, 'crates.txt').read_text(), re.M))
     programs = {c for c in crates if Path(root, 'crates', c, 'src/main.rt').exists()}  # nothing calls into a program
     functions = {(c, f) for c in crates - programs for file in Path(root, 'crates', c, 'src').glob('**/*.rt')
                  for f in re.findall(r'^pub (?:extern "C" )?fn (\w+)', file.read_text(), re.M)}

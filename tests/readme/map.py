@@ -3,7 +3,7 @@ import re
 import sys
 from pathlib import Path
 
-needs = {name: set(below.split()) for name, below in re.findall(r'^(\w+):(.*)$', Path('crates.txt').read_text(), re.M)}
+needs = {name: set(below.split()) for name, below in re.findall(r'^(\w+)(?: staticlib)?:(.*)$', Path('crates.txt').read_text(), re.M)}
 picture = re.search(r'^```text\n(.*?)^```$', Path('README.md').read_text(), re.M | re.S).group(1).split('\n')
 last = max(at for at, line in enumerate(picture) if line.startswith(' ==='))
 # beside the rows stand their names, on the left, and what they are, on the right
