@@ -109,3 +109,6 @@ module _ (a b : End) where
   pub pair_score : pair_tally_lem Score a b ≡ chosen_tally_lem true a b
   unfolding soft_with
   pair_score = refl
+
+-- what the goals of the function that goes by the side are found with
+pub ruleset sides = (end_tally_lem, pair_direct, pair_first, pair_literals, pair_score)

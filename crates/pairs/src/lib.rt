@@ -46,6 +46,7 @@ fn direct_tally(words: &[u32], seen: Seen) -> Tally
 }
 
 // Both ends, each clause with one literal more.
+#[tactic(auto, using(crate::proofs::Sums::both_tally_law, crate::proofs::Sums::end_few, sight::proofs::Sight::seen_small))]
 fn both_tally(words: &[u32], first: Seen, second: Seen) -> Tally
     requires { SeenWell words.now first × SeenWell words.now second }
     ensures { result ≡ both_tally_lem (end_of words.now first) (end_of words.now second) }
@@ -74,6 +75,7 @@ fn chosen_tally(words: &[u32], first: Seen, second: Seen, by_score: bool) -> Tal
 }
 
 // How many clauses and literals the pair at the cursor has.
+#[tactic(auto, using(sight::proofs::Sight::both_seen, crate::proofs::Sums::sides))]
 pub fn pair_tally(words: &[u32], side: Side, at: usize) -> Tally
     requires { Accepted words.now × PairStands words.now at }
     ensures { result

@@ -16,7 +16,7 @@ use Rattle.numbers.proofs.Counted.{base_small}
 use Rattle.ends.specs.declared.Seen.{Seen}
 use Rattle.ends.specs.Seen.{end_of, SeenWell}
 use Rattle.ends.proofs.Ends.{mine_few, theirs_few}
-use Rattle.sight.specs.Sight.{seen_of}
+use Rattle.sight.specs.Sight.{seen_of, turned_of}
 
 -- the two boxes of the pair whose head was read
 pub head_first : (ws : List ℕ) (at : ℕ) (pair : PairHead) → pair ≡ head_at_lem ws at → PairStands ws at → BoxStands ws pair.first
@@ -61,6 +61,11 @@ pub record Sees (ws : List ℕ) (at : ℕ) (w : Which) (seen : Seen) : Type 0 wh
 
 pub sees : (ws : List ℕ) (at : ℕ) (w : Which) (seen : Seen) → seen ≡ seen_of ws at w → Accepted ws → PairStands ws at → Sees ws at w seen
 sees ws at w seen e A S = record { well = rw e (seen_well ws at A S w); is = rw e (seen_end ws at w) }
+
+-- a caller that was handed the pair as its first box sees it, and turned, knows both ends
+pub both_seen : {ws : List ℕ} {at : ℕ} {a b : Seen} → a ≡ seen_of ws at one → b ≡ turned_of a → Accepted ws → PairStands ws at
+    → Sees ws at one a × Sees ws at two b
+both_seen {ws} {at} {a} {b} p q A S = (sees ws at one a p A S, sees ws at two b (q ∙ ap turned_of p) A S)
 
 -- ---- few values
 

@@ -9,7 +9,8 @@ use Rattle.refusal.specs.declared.Refusal.TheVariants.{Count}
 use Rattle.table.specs.declared.Checked.{Checked}
 use Rattle.table.specs.Words.{box_count, pair_count, range_fault, body_fault, first_fault_lem, judged}
 use Rattle.table.specs.Answers.{checked_of}
-use Rattle.table.proofs.Words.{Ranged, range_none, table_counts}
+use Rattle.table.proofs.Words.{Ranged, range_none, partners_none, box_stands, table_counts, end_turn, end_last}
+use Rattle.lists.proofs.Firsts.{first_end, first_next, first_found}
 use Rattle.table_check.specs.declared.Got.{Got}
 use Rattle.table_check.specs.declared.Got.TheVariants.{Value, Wrong}
 use Rattle.table_check.specs.declared.Step.TheVariants.{Next, Stop}
@@ -61,3 +62,14 @@ checked_body ws p q = go (body_fault ws (box_count ws) (pair_count ws)) refl
         let c = table_counts ws f in
         rw (f, c.0, c.1)
     go (some f) e = rw (first_body ws p q, e)
+
+-- ---- what the functions' goals are found with
+
+-- a turn of a loop that reads, and its end
+pub ruleset turns = (first_end, first_next, first_found, got_value, got_wrong, step_next, step_stop, end_turn, end_last)
+
+-- what it says of words that they met no fault
+pub ruleset faultless = (range_none, partners_none, box_stands)
+
+-- the answer from its parts
+pub ruleset whole = (got_ranged, checked_body)

@@ -39,6 +39,7 @@ enum Step {
 }
 
 // The word at `at`, if it is there and lies in low..=high.
+#[tactic(auto, unfolding(table::specs::Words::range_fault))]
 fn ranged(words: &[u32], at: usize, low: u32, high: u32, out: Refusal) -> Got
     ensures { result ≡ got_of (range_fault words.now at low high out) (get_or words.now at 0) }
 {
@@ -56,6 +57,7 @@ fn ranged(words: &[u32], at: usize, low: u32, high: u32, out: Refusal) -> Got
 }
 
 // The mask at `at`, if it is there and has no bit past `m` values.
+#[tactic(auto, unfolding(table::specs::Words::mask_fault))]
 fn narrow(words: &[u32], m: u32, at: usize) -> Got
     requires { m < 32 }
     ensures { result ≡ got_of (mask_fault words.now m at) (get_or words.now at 0) }
@@ -72,6 +74,7 @@ fn narrow(words: &[u32], m: u32, at: usize) -> Got
 }
 
 // The `n` domain sizes, which begin at word 2.
+#[tactic(auto, using(crate::proofs::Reading::turns))]
 fn sizes(words: &[u32], n: usize) -> Step
     requires { n ≤ 64 }
     ensures { result ≡ step_of (sizes_fault words.now n 2) (n + 2) }
@@ -91,6 +94,7 @@ fn sizes(words: &[u32], n: usize) -> Step
 }
 
 // The `count` masks that begin at word `from`, each of at most `m` values.
+#[tactic(auto, using(crate::proofs::Reading::turns))]
 fn masks(words: &[u32], m: u32, count: usize, from: usize) -> Step
     requires { (m < 32) × (from + count < 2 ^ 64) }
     ensures { result ≡ step_of (masks_fault words.now m count from) (from + count) }
@@ -110,6 +114,7 @@ fn masks(words: &[u32], m: u32, count: usize, from: usize) -> Step
 }
 
 // The two boxes of the pair at word `at`: where its weight stands.
+#[tactic(auto, using(crate::proofs::Reading::faultless), unfolding(table::specs::Words::partners_fault))]
 fn partners(words: &[u32], n: u32, at: usize) -> Step
     ensures { result ≡ step_of (partners_fault words.now n at) (at + 2) }
 {
@@ -145,6 +150,7 @@ fn rows(words: &[u32], at: usize) -> Step
 }
 
 // The pair at word `at`: where the next one begins.
+#[tactic(auto, using(crate::proofs::Reading::faultless), unfolding(table::specs::Words::pair_fault))]
 fn pair(words: &[u32], n: u32, at: usize) -> Step
     requires { (n ≡ box_count words.now) × (sizes_fault words.now (box_count words.now) 2 ≡ none) }
     ensures { result ≡ step_of (pair_fault words.now n at) (pair_next words.now at) }
@@ -159,6 +165,7 @@ fn pair(words: &[u32], n: u32, at: usize) -> Step
 }
 
 // The `p` pairs that begin at word `from`: where they end.
+#[tactic(auto, using(crate::proofs::Reading::turns))]
 fn pairs(words: &[u32], n: u32, p: u32, from: usize) -> Step
     requires { (n ≡ box_count words.now) × (sizes_fault words.now (box_count words.now) 2 ≡ none) }
     ensures { result ≡ step_of (pairs_fault words.now n p from) (pairs_end words.now p from) }
@@ -180,6 +187,7 @@ fn pairs(words: &[u32], n: u32, p: u32, from: usize) -> Step
 }
 
 // What follows the two counts.
+#[tactic(auto, unfolding(table::specs::Words::body_fault))]
 fn body(words: &[u32], n: u32, p: u32) -> Checked
     requires { (n ≡ box_count words.now) × (1 ≤ n) × (n ≤ 64) }
     ensures { result ≡ body_of words.now n p }
@@ -203,6 +211,7 @@ fn body(words: &[u32], n: u32, p: u32) -> Checked
 }
 
 // The table's counts, or the first fault that reading its words left to right meets.
+#[tactic(auto, using(crate::proofs::Reading::whole))]
 pub fn check(words: &[u32]) -> Checked
     ensures { result ≡ checked_of (judged words.now) }
 {

@@ -21,6 +21,9 @@ use Rattle.clause.proofs.Turns.{length_part, literals_part}
 use Rattle.hard.specs.declared.Tally.{Tally}
 use Rattle.hard.specs.Tallies.{tally_of, box_tally_lem}
 use Rattle.hard.proofs.Tallies.{tally_any}
+use Rattle.clause.specs.Ends.{one, two, end}
+use Rattle.pairs.specs.Pairs.{pair_tally_lem}
+use Rattle.pairs.proofs.Counted.{pair_tally_is, pair_room}
 use Rattle.pairs.proofs.Sums as sums
 
 abbrev pub weight_of : Pair → ℕ
@@ -81,6 +84,24 @@ few_part cs p R =
     let a = ap (λ (t : Tally). t.clauses) p in
     let b = ap (λ (t : Tally). t.literals) p in
     (omega (arith, a, R.clauses), omega (arith, b, R.entries, entries_length cs))
+
+-- what is known of the tally of a box or of a pair: whose clauses it counts, and how few they are
+pub record Part (cs : List Clause) (n k : ℕ) (part : Tally) : Type 0 where
+  pub is : part ≡ tally_of cs
+  pub clauses : part.clauses ≤ n
+  pub literals : part.literals ≤ k
+
+known_part : {n k : ℕ} {part : Tally} (cs : List Clause) → part ≡ tally_of cs → Room cs n k → Part cs n k part
+known_part cs p R = let few = few_part cs p R in record { is = p; clauses = few.0; literals = few.1 }
+
+pub box_part : {m : ℕ} {part : Tally} (h : Hard) (ws : List ℕ) (b : ℕ) → Accepted ws → BoxStands ws b → m ≡ size_at ws b → part ≡ box_tally_lem h m
+    → Part (box_clauses h (table_of ws) b) 128 400 part
+box_part h ws b A B e p = known_part _ (p ∙ ap (box_tally_lem h) e ∙ box_tally_is h ws A b B) (box_few h ws A b B)
+
+pub pair_part : {part : Tally} (h : Hard) (s : Side) (ws : List ℕ) (k at : ℕ) → Accepted ws → PairStands ws at
+    → part ≡ pair_tally_lem s (end (table_of ws) (pair_at ws at) one) (end (table_of ws) (pair_at ws at) two)
+    → Part (pair_clauses h s (table_of ws) k (pair_at ws at)) 256 1024 part
+pair_part h s ws k at A S p = known_part _ (p ∙ sym (pair_tally_is h s ws k at)) (pair_room h s ws k at A S)
 
 -- ---- the soft part comes to the same with either hard part: which number c_k has does not matter
 

@@ -1,10 +1,6 @@
 -- The part that is handed on is the list of the end that is taken.
-use Rattle.both_ends.specs.Chosen.{chosen}
 use Rattle.both_ends.proofs.Ends.{end_short, handed_on}
 use Rattle.sight.proofs.Sight.{seen_small}
-use Rattle.ends.specs.Seen.{end_of}
-use Rattle.clause.specs.Clause.{entries_of}
-use mathlib.Core.Path.{◌≡◌}
 use Rattle.both_ends.proofs.put_chosen.Goals as goal
 
 pub put_support-la-requires : goal.put_support-la-requires
@@ -15,16 +11,10 @@ put_support-lb-requires c = (c.requires.1, tt, end_short _ (seen_small c.require
 
 pub put_part-requires : goal.put_part-requires
 put_part-requires c =
-    let a = c.args in
-    let part_is : c.better-part.result.now ≡ entries_of (chosen a.by_score (end_of a.words.now a.a) (end_of a.words.now a.b)) =
-    handed_on a.by_score _ _ c.put_support-la.ensures c.requires.2 c.put_support-lb.ensures c.requires.3 c.takes_second-over.result
-    c.takes_second-over.ensures c.better-part.ensures in
-    rw part_is c.requires.4
+    let part = handed_on c.args.by_score _ _ c.put_support-la.ensures c.requires.2 c.put_support-lb.ensures c.requires.3 _ c.takes_second-over.ensures c.better-part.ensures in
+    rw part c.requires.4
 
 pub returns : goal.returns
 returns c =
-    let a = c.args in
-    let part_is : c.better-part.result.now ≡ entries_of (chosen a.by_score (end_of a.words.now a.a) (end_of a.words.now a.b)) =
-    handed_on a.by_score _ _ c.put_support-la.ensures c.requires.2 c.put_support-lb.ensures c.requires.3 c.takes_second-over.result
-    c.takes_second-over.ensures c.better-part.ensures in
-    (rw part_is at c.put_part.ensures, c.put_support-la.ensures.list, c.put_support-lb.ensures.list)
+    let part = handed_on c.args.by_score _ _ c.put_support-la.ensures c.requires.2 c.put_support-lb.ensures c.requires.3 _ c.takes_second-over.ensures c.better-part.ensures in
+    (rw part at c.put_part.ensures, c.put_support-la.ensures.list, c.put_support-lb.ensures.list)

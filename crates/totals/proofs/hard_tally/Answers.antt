@@ -1,12 +1,10 @@
 -- What is counted and what the boxes ahead come to make up the hard part.
 use Rattle.totals.proofs.Starts.{hard_start}
-use Rattle.totals.proofs.Counting.{makes_all, makes_turn, makes_none, box_tally_is, box_few, few_part}
-use Rattle.hard.specs.Tallies.{box_tally_lem}
+use Rattle.totals.proofs.Counting.{makes_all, makes_turn, makes_none, box_part}
 use Rattle.clause.proofs.Turns.{hard_turn, hard_end}
 use Rattle.table.proofs.Tables.{accepted_box}
 use Rattle.table.proofs.Words.{accepted_parts}
 use Rattle.table.specs.Words.{table_of}
-use mathlib.Core.Path.{ap, ◌∙◌}
 use native.Mathlib.Omega.{arith}
 use Rattle.totals.proofs.hard_tally.Goals as goal
 
@@ -30,46 +28,32 @@ box_tally-part-requires c =
 pub overflow_add-clauses : goal.overflow_add-clauses
 overflow_add-clauses c =
     let ws = c.args.words.now in
-    let A = c.requires.0 in
-    let B = accepted_box ws c.loop-b.b A (c.loop-b.invariant.0, omega (arith, c.requires.1, c.loop-b-test.true)) in
-    let part = c.box_tally-part.ensures ∙ ap (box_tally_lem c.args.hard) c.size.ensures ∙ box_tally_is c.args.hard ws A c.loop-b.b B in
-    let few = few_part _ part (box_few c.args.hard ws A c.loop-b.b B) in
-    let boxes = (accepted_parts ws A).boxes.range.1 in
-    omega (arith, few.0, c.loop-b.invariant.3, boxes, c.requires.1, c.loop-b-test.true)
+    let B = accepted_box ws c.loop-b.b c.requires.0 (c.loop-b.invariant.0, omega (arith, c.requires.1, c.loop-b-test.true)) in
+    let part = box_part c.args.hard ws c.loop-b.b c.requires.0 B c.size.ensures c.box_tally-part.ensures in
+    let boxes = (accepted_parts ws c.requires.0).boxes.range.1 in
+    omega (arith, part.clauses, c.loop-b.invariant.3, boxes, c.requires.1, c.loop-b-test.true)
 
 pub overflow_add-literals : goal.overflow_add-literals
 overflow_add-literals c =
     let ws = c.args.words.now in
-    let A = c.requires.0 in
-    let B = accepted_box ws c.loop-b.b A (c.loop-b.invariant.0, omega (arith, c.requires.1, c.loop-b-test.true)) in
-    let part = c.box_tally-part.ensures ∙ ap (box_tally_lem c.args.hard) c.size.ensures ∙ box_tally_is c.args.hard ws A c.loop-b.b B in
-    let few = few_part _ part (box_few c.args.hard ws A c.loop-b.b B) in
-    let boxes = (accepted_parts ws A).boxes.range.1 in
-    omega (arith, few.1, c.loop-b.invariant.4, boxes, c.requires.1, c.loop-b-test.true)
+    let B = accepted_box ws c.loop-b.b c.requires.0 (c.loop-b.invariant.0, omega (arith, c.requires.1, c.loop-b-test.true)) in
+    let part = box_part c.args.hard ws c.loop-b.b c.requires.0 B c.size.ensures c.box_tally-part.ensures in
+    let boxes = (accepted_parts ws c.requires.0).boxes.range.1 in
+    omega (arith, part.literals, c.loop-b.invariant.4, boxes, c.requires.1, c.loop-b-test.true)
 
 pub overflow_add-b : goal.overflow_add-b
-overflow_add-b c =
-    let ws = c.args.words.now in
-    let A = c.requires.0 in
-    let B = accepted_box ws c.loop-b.b A (c.loop-b.invariant.0, omega (arith, c.requires.1, c.loop-b-test.true)) in
-    let part = c.box_tally-part.ensures ∙ ap (box_tally_lem c.args.hard) c.size.ensures ∙ box_tally_is c.args.hard ws A c.loop-b.b B in
-    let few = few_part _ part (box_few c.args.hard ws A c.loop-b.b B) in
-    let boxes = (accepted_parts ws A).boxes.range.1 in
-    omega (arith, boxes, c.requires.1, c.loop-b-test.true)
+overflow_add-b c = omega (arith, (accepted_parts c.args.words.now c.requires.0).boxes.range.1, c.requires.1, c.loop-b-test.true)
 
 pub loop-b-preserved : goal.loop-b-preserved
 loop-b-preserved c =
     let ws = c.args.words.now in
-    let A = c.requires.0 in
-    let B = accepted_box ws c.loop-b.b A (c.loop-b.invariant.0, omega (arith, c.requires.1, c.loop-b-test.true)) in
-    let part = c.box_tally-part.ensures ∙ ap (box_tally_lem c.args.hard) c.size.ensures ∙ box_tally_is c.args.hard ws A c.loop-b.b B in
-    let few = few_part _ part (box_few c.args.hard ws A c.loop-b.b B) in
-    let boxes = (accepted_parts ws A).boxes.range.1 in (
+    let B = accepted_box ws c.loop-b.b c.requires.0 (c.loop-b.invariant.0, omega (arith, c.requires.1, c.loop-b-test.true)) in
+    let part = box_part c.args.hard ws c.loop-b.b c.requires.0 B c.size.ensures c.box_tally-part.ensures in (
       omega arith,
       omega (arith, c.loop-b-test.true),
-      makes_turn _ part (hard_turn c.args.hard (table_of ws) c.args.n c.loop-b.b c.loop-b-test.true) c.loop-b.invariant.2,
-      omega (arith, few.0, c.loop-b.invariant.3, c.loop-b.invariant.0),
-      omega (arith, few.1, c.loop-b.invariant.4, c.loop-b.invariant.0),
+      makes_turn _ part.is (hard_turn c.args.hard (table_of ws) c.args.n c.loop-b.b c.loop-b-test.true) c.loop-b.invariant.2,
+      omega (arith, part.clauses, c.loop-b.invariant.3, c.loop-b.invariant.0),
+      omega (arith, part.literals, c.loop-b.invariant.4, c.loop-b.invariant.0),
     )
 
 pub returns : goal.returns

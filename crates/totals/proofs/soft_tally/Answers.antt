@@ -1,14 +1,13 @@
 -- What is counted and what the pairs ahead come to make up the soft part.
 use Rattle.totals.proofs.Starts.{soft_start}
-use Rattle.totals.proofs.Counting.{makes_all, makes_turn, makes_none, few_part}
-use Rattle.pairs.proofs.Counted.{pair_tally_is, pair_room}
+use Rattle.totals.proofs.Counting.{makes_all, makes_turn, makes_none, pair_part}
 use Rattle.clause.proofs.Turns.{bare_turn, soft_end}
 use Rattle.clause.specs.Clause.{bare}
 use Rattle.clause.specs.declared.Hard.TheVariants.{Standard}
 use Rattle.table.proofs.Tables.{counted_start}
 use Rattle.table.proofs.Words.{ahead_turn}
 use Prim.Native.Nat.{◌+◌, ◌-◌}
-use mathlib.Core.Path.{◌≡◌, sym, ap, ◌∙◌}
+use mathlib.Core.Path.{◌≡◌, ap}
 use native.Mathlib.Nat.{sub-zero}
 use native.Mathlib.Omega.{arith}
 use Rattle.totals.proofs.soft_tally.Goals as goal
@@ -36,48 +35,32 @@ pair_tally-part-requires c = (c.requires.table, (ahead_turn c.args.words.now c.a
 pub overflow_add-clauses : goal.overflow_add-clauses
 overflow_add-clauses c =
     let ws = c.args.words.now in
-    let A = c.requires.table in
-    let p = c.args.counts.pairs in
-    let turn = ahead_turn ws p c.loop-k.k c.loop-k.at c.loop-k-test.true c.loop-k.invariant.2 in
-    let part = c.pair_tally-part.ensures ∙ sym (pair_tally_is Standard c.args.side ws (c.loop-k.k + 1) c.loop-k.at) in
-    let few = few_part _ part (pair_room Standard c.args.side ws (c.loop-k.k + 1) c.loop-k.at A turn.0) in
-    omega (arith, few.0, c.loop-k.invariant.4, c.loop-k.invariant.1, c.loop-k-test.true)
+    let turn = ahead_turn ws c.args.counts.pairs c.loop-k.k c.loop-k.at c.loop-k-test.true c.loop-k.invariant.2 in
+    let part = pair_part Standard c.args.side ws (c.loop-k.k + 1) c.loop-k.at c.requires.table turn.0 c.pair_tally-part.ensures in
+    omega (arith, part.clauses, c.loop-k.invariant.4, c.loop-k.invariant.1, c.loop-k-test.true)
 
 pub overflow_add-literals : goal.overflow_add-literals
 overflow_add-literals c =
     let ws = c.args.words.now in
-    let A = c.requires.table in
-    let p = c.args.counts.pairs in
-    let turn = ahead_turn ws p c.loop-k.k c.loop-k.at c.loop-k-test.true c.loop-k.invariant.2 in
-    let part = c.pair_tally-part.ensures ∙ sym (pair_tally_is Standard c.args.side ws (c.loop-k.k + 1) c.loop-k.at) in
-    let few = few_part _ part (pair_room Standard c.args.side ws (c.loop-k.k + 1) c.loop-k.at A turn.0) in
-    omega (arith, few.1, c.loop-k.invariant.5, c.loop-k.invariant.1, c.loop-k-test.true)
+    let turn = ahead_turn ws c.args.counts.pairs c.loop-k.k c.loop-k.at c.loop-k-test.true c.loop-k.invariant.2 in
+    let part = pair_part Standard c.args.side ws (c.loop-k.k + 1) c.loop-k.at c.requires.table turn.0 c.pair_tally-part.ensures in
+    omega (arith, part.literals, c.loop-k.invariant.5, c.loop-k.invariant.1, c.loop-k-test.true)
 
 pub next_pair-at-requires : goal.next_pair-at-requires
-next_pair-at-requires c =
-    let ws = c.args.words.now in
-    let A = c.requires.table in
-    let p = c.args.counts.pairs in
-    let turn = ahead_turn ws p c.loop-k.k c.loop-k.at c.loop-k-test.true c.loop-k.invariant.2 in
-    let part = c.pair_tally-part.ensures ∙ sym (pair_tally_is Standard c.args.side ws (c.loop-k.k + 1) c.loop-k.at) in
-    let few = few_part _ part (pair_room Standard c.args.side ws (c.loop-k.k + 1) c.loop-k.at A turn.0) in
-    turn.0
+next_pair-at-requires c = (ahead_turn c.args.words.now c.args.counts.pairs c.loop-k.k c.loop-k.at c.loop-k-test.true c.loop-k.invariant.2).0
 
 pub loop-k-preserved : goal.loop-k-preserved
 loop-k-preserved c =
     let ws = c.args.words.now in
-    let A = c.requires.table in
-    let p = c.args.counts.pairs in
-    let turn = ahead_turn ws p c.loop-k.k c.loop-k.at c.loop-k-test.true c.loop-k.invariant.2 in
-    let part = c.pair_tally-part.ensures ∙ sym (pair_tally_is Standard c.args.side ws (c.loop-k.k + 1) c.loop-k.at) in
-    let few = few_part _ part (pair_room Standard c.args.side ws (c.loop-k.k + 1) c.loop-k.at A turn.0) in
-    let ahead = bare_turn Standard c.args.side ws p c.loop-k.k c.loop-k.at c.loop-k-test.true in (
+    let turn = ahead_turn ws c.args.counts.pairs c.loop-k.k c.loop-k.at c.loop-k-test.true c.loop-k.invariant.2 in
+    let part = pair_part Standard c.args.side ws (c.loop-k.k + 1) c.loop-k.at c.requires.table turn.0 c.pair_tally-part.ensures in
+    let ahead = bare_turn Standard c.args.side ws c.args.counts.pairs c.loop-k.k c.loop-k.at c.loop-k-test.true in (
       omega (arith, c.loop-k-test.true),
       c.loop-k.invariant.1,
       rw c.next_pair-at.ensures turn.1,
-      rw c.next_pair-at.ensures (makes_turn _ part ahead c.loop-k.invariant.3),
-      omega (arith, few.0, c.loop-k.invariant.4),
-      omega (arith, few.1, c.loop-k.invariant.5),
+      rw c.next_pair-at.ensures (makes_turn _ part.is ahead c.loop-k.invariant.3),
+      omega (arith, part.clauses, c.loop-k.invariant.4),
+      omega (arith, part.literals, c.loop-k.invariant.5),
     )
 
 pub returns : goal.returns

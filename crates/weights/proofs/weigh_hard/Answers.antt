@@ -1,7 +1,6 @@
 -- What the boxes ahead have is still owed.
 use Rattle.totals.proofs.Starts.{hard_start}
-use Rattle.totals.proofs.Counting.{box_tally_is}
-use Rattle.hard.specs.Tallies.{box_tally_lem}
+use Rattle.totals.proofs.Counting.{box_part}
 use Rattle.hard.specs.declared.Tally.{Tally}
 use Rattle.clause.specs.Hard.{box_clauses}
 use Rattle.clause.proofs.Turns.{hard_from, hard_weights, hard_end}
@@ -14,7 +13,7 @@ use Rattle.lists.proofs.Stores.{owes_all, owes_part, owes_none, owes_room}
 use lib.ListN.{length, replicate, length-replicate}
 use Prim.Native.Nat.{ℕ, ◌+◌, ◌<◌, ◌^◌}
 use mathlib.Core.List.{List}
-use mathlib.Core.Path.{◌≡◌, ap, ◌∙◌}
+use mathlib.Core.Path.{ap}
 use native.Mathlib.Omega.{arith}
 use Rattle.weights.proofs.weigh_hard.Goals as goal
 
@@ -22,11 +21,7 @@ pub loop-b-init : goal.loop-b-init
 loop-b-init c = (omega arith, omega arith, rw (hard_start c.args.part c.args.words.now c.args.n c.requires.0 c.requires.1) owes_all)
 
 pub size-requires : goal.size-requires
-size-requires c =
-    let ws = c.args.words.now in
-    let A = c.requires.0 in
-    let B = accepted_box ws c.loop-b.b A (c.loop-b.invariant.0, omega (arith, c.requires.1, c.loop-b-test.true)) in
-    B
+size-requires c = accepted_box c.args.words.now c.loop-b.b c.requires.0 (c.loop-b.invariant.0, omega (arith, c.requires.1, c.loop-b-test.true))
 
 pub box_tally-tally-requires : goal.box_tally-tally-requires
 box_tally-tally-requires c =
@@ -40,9 +35,7 @@ put_weights-at-requires c =
     let ws = c.args.words.now in
     let A = c.requires.0 in
     let B = accepted_box ws c.loop-b.b A (c.loop-b.invariant.0, omega (arith, c.requires.1, c.loop-b-test.true)) in
-    let count : c.box_tally-tally.result.clauses ≡ length (box_clauses c.args.part (table_of ws) c.loop-b.b)
-    = ap (λ (u : Tally). u.clauses) (c.box_tally-tally.ensures ∙ ap (box_tally_lem c.args.part) c.size.ensures
-    ∙ box_tally_is c.args.part ws A c.loop-b.b B) in
+    let count = ap (λ (u : Tally). u.clauses) (box_part c.args.part ws c.loop-b.b A B c.size.ensures c.box_tally-tally.ensures).is in
     let text = hard_weights c.args.part (table_of ws) c.args.n c.loop-b.b c.loop-b-test.true in
     let room : c.args.from + length (replicate {A = ℕ} (length (hard_part c.args.part (table_of ws))) 0) < 2 ^ 64 = rw length-replicate c.requires.2 in
     let w : ℕ = 0 in
@@ -51,20 +44,14 @@ put_weights-at-requires c =
     omega (arith, count, fits, length-replicate (length (box_clauses c.args.part (table_of ws) c.loop-b.b)) w)
 
 pub overflow_add-b : goal.overflow_add-b
-overflow_add-b c =
-    let ws = c.args.words.now in
-    let A = c.requires.0 in
-    let B = accepted_box ws c.loop-b.b A (c.loop-b.invariant.0, omega (arith, c.requires.1, c.loop-b-test.true)) in
-    omega (arith, c.requires.1, (accepted_parts ws A).boxes.range.1, B.number.1)
+overflow_add-b c = omega (arith, c.requires.1, c.loop-b-test.true, (accepted_parts c.args.words.now c.requires.0).boxes.range.1)
 
 pub loop-b-preserved : goal.loop-b-preserved
 loop-b-preserved c =
     let ws = c.args.words.now in
     let A = c.requires.0 in
     let B = accepted_box ws c.loop-b.b A (c.loop-b.invariant.0, omega (arith, c.requires.1, c.loop-b-test.true)) in
-    let count : c.box_tally-tally.result.clauses ≡ length (box_clauses c.args.part (table_of ws) c.loop-b.b)
-    = ap (λ (u : Tally). u.clauses) (c.box_tally-tally.ensures ∙ ap (box_tally_lem c.args.part)
-    c.size.ensures ∙ box_tally_is c.args.part ws A c.loop-b.b B) in
+    let count = ap (λ (u : Tally). u.clauses) (box_part c.args.part ws c.loop-b.b A B c.size.ensures c.box_tally-tally.ensures).is in
     let text = hard_weights c.args.part (table_of ws) c.args.n c.loop-b.b c.loop-b-test.true in (
       omega arith,
       omega (arith, c.loop-b-test.true),
