@@ -28,8 +28,10 @@ def theorems(root):
     for file in sorted(Path(root, 'crates/outcomes/proofs').glob('*.antt')):
         text = file.read_text()
         crates = {short or crate: crate for crate, short in re.findall(r'^use Rattle\.(\w+)(?: as (\S+))?$', text, re.M)}
-        for name, statement in re.findall(r'^pub (\S+_decided) : (.*)$', text, re.M):
-            said = re.fullmatch(r'Decided(?:By)? (\S+)\.specs\.contracts\.(\w+)\.ended (?:.* )?\1\.proofs\.\2\.Reads\.Post', statement)
+        for name, statement in re.findall(r'^ *pub (\S+_decided) : (.*)$', text, re.M):
+            # of a generic function for any type, by what the type brings along: both in parentheses
+            said = re.fullmatch(r'Decided(?:By)? (\S+)\.specs\.contracts\.(\w+)\.ended (?:.* )?\1\.proofs\.\2\.Reads\.Post', statement) or \
+                re.fullmatch(r'Decided \((\S+)\.specs\.contracts\.(\w+)\.ended [\w ]+\) \(\1\.proofs\.\2\.Reads\.Post [\w ]+\)', statement)
             function = said and (crates.get(said[1], 'none'), said[2])
             if function and name == '_'.join(function) + '_decided':
                 decided.add(function)

@@ -28,6 +28,8 @@ SLIPS = [  # a file, what stands there, what stands there instead, and what is f
     (THEOREMS, 'h.proofs', 'g.proofs', [ANOTHER, NONE]),
     (THEOREMS, 'as h\n', 'as h\n\npub half_print_decided : Decided h.specs.contracts.print.ended h.proofs.print.Reads.Post\n',
      ['print of half has a theorem that it is decided, and a reason for none']),
+    (THEOREMS, 'Decided h.specs.contracts.half_of.ended h.proofs.half_of.Reads.Post', 'Decided (h.specs.contracts.half_of.ended T) (h.proofs.print.Reads.Post T)',
+     [ANOTHER, NONE]),
     (PROMISES, '| it prints |\n| `show', '| |\n| `show', [f'{PROMISES} has no reason for `half::print(x)`']),
     (PROMISES, '| `show::main` | it prints |\n', '', ['main of show has no theorem that it is decided, and no reason']),
     (PROMISES, '| `half_c::half_of(x)` | none builds on it |\n', '',

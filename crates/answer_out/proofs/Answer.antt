@@ -1,23 +1,9 @@
--- How long the texts are at most; a turn of the loop over a plan.
-use mathlib.Core.Path.{◌≡◌}
-use mathlib.Core.List.{List, [], ◌++◌, flat_map}
-use Prim.Native.Nat.{ℕ, ◌+◌, ◌^◌, ◌≤◌, ◌<◌}
+-- How long the texts are at most.
+use Prim.Native.Nat.{ℕ, ◌^◌, ◌≤◌, ◌<◌}
 use native.Mathlib.Omega.{arith}
-use native.Mathlib.Numerals.{add-one}
-use lib.ListN.{length, get_or, drop, drop_of_length-le}
-use lib.Seq.{drop-cons}
+use lib.ListN.{length}
 use Rattle.text_out.proofs.Texts.{short_line}
-use Rattle.answer_out.specs.Answer.{value_key, cost_key, value_line, value_lines, cost_line}
-
--- ---- a turn of the loop, from index i of the plan on
-
-pub values_turn : (l : List ℕ) (i : ℕ) → i < length l → value_lines (drop i l) ≡ value_line (get_or l i 0) ++ value_lines (drop (i + 1) l)
-unfolding value_lines flat_map
-values_turn l i h = rw (drop-cons l i 0 h, add-one)
-
-pub values_end : (l : List ℕ) (i : ℕ) → length l ≤ i → value_lines (drop i l) ≡ []
-unfolding value_lines flat_map
-values_end l i h = rw (drop_of_length-le l {i = i} h)
+use Rattle.answer_out.specs.Answer.{value_key, cost_key, value_line, cost_line}
 
 -- ---- at most: what a program's buffer has to hold
 

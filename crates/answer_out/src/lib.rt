@@ -6,6 +6,7 @@ ghost use Rattle.lists.specs.Stores.{Wrote};
 ghost use Rattle.answer_out.specs.Answer.{value_line, value_lines, cost_line, answer_text};
 
 // The line of one box's value: at most 17 bytes.
+#[tactic(auto, using(crate::proofs::Answer::short_value))]
 fn put_value(out: &mut [u8], at: usize, v: u32) -> usize
     requires { at + 17 < 2 ^ 64 }
     ensures { Wrote out.old at (value_line v) result out.new × (result ≤ at + 17) }
@@ -14,6 +15,7 @@ fn put_value(out: &mut [u8], at: usize, v: u32) -> usize
 }
 
 // The line of the cost: at most 26 bytes.
+#[tactic(auto, using(crate::proofs::Answer::short_cost))]
 fn put_cost(out: &mut [u8], at: usize, cost: u64) -> usize
     requires { at + 26 < 2 ^ 64 }
     ensures { Wrote out.old at (cost_line cost) result out.new }
@@ -22,15 +24,14 @@ fn put_cost(out: &mut [u8], at: usize, cost: u64) -> usize
 }
 
 // The value lines of a plan, box by box: at most 17 bytes each.
+#[tactic(auto, using(text_out::proofs::Listed::listed_none, text_out::proofs::Listed::listed_all), unfolding(crate::specs::Answer::value_lines))]
 fn put_values(out: &mut [u8], from: usize, plan: &[u32]) -> usize
     requires { from + 17 * length plan.now < 2 ^ 64 }
     ensures { Wrote out.old from (value_lines plan.now) result out.new × (result ≤ from + 17 * length plan.now) }
 {
     let mut at = from;
-    let mut i = 0;
-    while i < plan.len() {
-        at = put_value(out, at, plan[i]);
-        i += 1;
+    for v in plan {
+        at = put_value(out, at, *v);
     }
     at
 }

@@ -6,25 +6,16 @@ ghost use Rattle.table.specs.Words.{judged};
 ghost use Rattle.clause.specs.Encodings.{picked_of};
 ghost use Rattle.asked.specs.Asked.{asked_of};
 
-use clause::{Encoding, Picked};
+use clause::Encoding;
 use refusal::Refusal;
-use table::{Checked, Counts};
-
-#[derive(Clone, Copy)]
-pub enum Asked {
-    Ready(Encoding, Counts),
-    Refused(Refusal),
-}
+use table::Counts;
 
 // The encoding and the counts of the table: 8 for an unknown encoding, then 1 to 7.
-pub fn ask(words: &[u32], hard: u32, side: u32) -> Asked
+#[tactic(auto, using(table::proofs::Answers::checked_refused, crate::proofs::Answers::ready))]
+pub fn ask(words: &[u32], hard: u32, side: u32) -> Result<(Encoding, Counts), Refusal>
     ensures { result ≡ asked_of (picked_of hard side) (judged words.now) }
 {
-    match clause::pick(hard, side) {
-        Picked::Unknown => Asked::Refused(Refusal::Choice),
-        Picked::Known(e) => match table_check::check(words) {
-            Checked::Refused(f) => Asked::Refused(f),
-            Checked::Accepted(counts) => Asked::Ready(e, counts),
-        },
-    }
+    let encoding = clause::pick(hard, side)?;
+    let counts = table_check::check(words)?;
+    Ok((encoding, counts))
 }

@@ -13,7 +13,7 @@ ghost use Rattle.choice.specs.Tally.{end_tally, second_by};
 ghost use Rattle.both_ends.specs.Chosen.{chosen};
 
 use ends::Seen;
-use support::Tail;
+use standard::Literal;
 
 // Both ends: the first one's clauses end in the switch, the second one's in its negation.
 pub fn put_both(
@@ -30,8 +30,8 @@ pub fn put_both(
         (entries_of (soft_with Support (end_of words.now a) (end_of words.now b) (plus switch ∷ []) (minus switch ∷ [])))
         result out.new }
 {
-    let next = support::put_support(words, a, Tail::Plus(switch), out, cursor);
-    support::put_support(words, b, Tail::Minus(switch), out, next)
+    let next = support::put_support(words, a, Some(Literal::Plus(switch)), out, cursor);
+    support::put_support(words, b, Some(Literal::Minus(switch)), out, next)
 }
 
 // Whether the second end is the one that is taken.
@@ -65,9 +65,9 @@ pub fn put_chosen(
         × (first.new ≡ sets first.old 0 (entries_of (support_clauses (end_of words.now a) [])))
         × (second.new ≡ sets second.old 0 (entries_of (support_clauses (end_of words.now b) []))) }
 {
-    let la = support::put_support(words, a, Tail::Bare, first, 0);
-    let lb = support::put_support(words, b, Tail::Bare, second, 0);
+    let la = support::put_support(words, a, None, first, 0);
+    let lb = support::put_support(words, b, None, second, 0);
     let over = takes_second(words, a, b, by_score);
     let part = choice::better(first, la, second, lb, over);
-    puts::put_part(part, out, cursor)
+    stores::put_all(out, cursor, part)
 }

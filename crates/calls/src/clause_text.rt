@@ -2,7 +2,6 @@
 use calls_case::answer::Answer;
 use calls_case::{answer, head, lent};
 use std::io::Write;
-use wcnf_out::Written;
 
 fn write_wcnf(
     case: &[u32],
@@ -14,8 +13,8 @@ fn write_wcnf(
     let hard = head::number(case, head::HARD);
     let side = head::number(case, head::SIDE);
     match wcnf_out::write_wcnf(words, hard, side, first, second, text) {
-        Written::Refused(f) => answer::refused(f),
-        Written::Text(n) => answer::success(n as u64, 0, 0, 0, 0),
+        Err(f) => answer::refused(f),
+        Ok(n) => answer::success(n as u64, 0, 0, 0, 0),
     }
 }
 
@@ -46,9 +45,9 @@ fn call_filled(
     second: &mut [i32],
     text: &mut [u8],
 ) -> Answer {
-    lent::fill_literals(case, head::FIRST, first);
-    lent::fill_literals(case, head::SECOND, second);
-    lent::fill_bytes(case, head::TEXT, text);
+    lent::fill(case, head::FIRST, first);
+    lent::fill(case, head::SECOND, second);
+    lent::fill(case, head::TEXT, text);
     call(case, words, first, second, text)
 }
 
@@ -57,8 +56,8 @@ fn show_in(to: &mut impl Write, case: &[u32], words: &[u32], text: &mut [u8]) {
     let mut second = [0i32; 2048];
     let mut space = [0u8; 16384];
     answer::say(to, call_filled(case, words, &mut first, &mut second, text));
-    lent::say_literals(to, case, head::FIRST, &first, &mut space);
-    lent::say_literals(to, case, head::SECOND, &second, &mut space);
+    lent::say(to, case, head::FIRST, &first, &mut space);
+    lent::say(to, case, head::SECOND, &second, &mut space);
     prints::send(to, text, head::shown(case, head::TEXT));
 }
 

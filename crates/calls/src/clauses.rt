@@ -1,7 +1,6 @@
 // The clause list of a table: two scratch buffers, and room for literals and weights.
 use calls_case::answer::Answer;
 use calls_case::{answer, head, lent};
-use encoder::Encoded;
 use std::io::Write;
 
 fn encode(
@@ -15,8 +14,8 @@ fn encode(
     let hard = head::number(case, head::HARD);
     let side = head::number(case, head::SIDE);
     match encoder::encode(words, hard, side, first, second, literals, weights) {
-        Encoded::Refused(f) => answer::refused(f),
-        Encoded::Written(w) => answer::success(w.literals as u64, w.weights as u64, 0, 0, 0),
+        Err(f) => answer::refused(f),
+        Ok(w) => answer::success(w.literals as u64, w.weights as u64, 0, 0, 0),
     }
 }
 
@@ -51,10 +50,10 @@ fn call_filled(
     literals: &mut [i32],
     weights: &mut [u64],
 ) -> Answer {
-    lent::fill_literals(case, head::FIRST, first);
-    lent::fill_literals(case, head::SECOND, second);
-    lent::fill_literals(case, head::LITERALS, literals);
-    lent::fill_weights(case, head::WEIGHTS, weights);
+    lent::fill(case, head::FIRST, first);
+    lent::fill(case, head::SECOND, second);
+    lent::fill(case, head::LITERALS, literals);
+    lent::fill(case, head::WEIGHTS, weights);
     call(case, words, first, second, literals, weights)
 }
 
@@ -67,10 +66,10 @@ fn say_left(
     weights: &[u64],
     space: &mut [u8],
 ) {
-    lent::say_literals(to, case, head::FIRST, first, space);
-    lent::say_literals(to, case, head::SECOND, second, space);
-    lent::say_literals(to, case, head::LITERALS, literals, space);
-    lent::say_weights(to, case, head::WEIGHTS, weights, space);
+    lent::say(to, case, head::FIRST, first, space);
+    lent::say(to, case, head::SECOND, second, space);
+    lent::say(to, case, head::LITERALS, literals, space);
+    lent::say(to, case, head::WEIGHTS, weights, space);
 }
 
 fn show_in(
@@ -106,17 +105,11 @@ fn show_large(to: &mut impl Write, case: &[u32], words: &[u32]) {
 }
 
 fn is_small(case: &[u32]) -> bool {
-    if head::fits(case, head::LITERALS, 16384) {
-        return head::fits(case, head::WEIGHTS, 8192);
-    }
-    false
+    head::fits(case, head::LITERALS, 16384) && head::fits(case, head::WEIGHTS, 8192)
 }
 
 fn is_large(case: &[u32]) -> bool {
-    if head::fits(case, head::LITERALS, 262144) {
-        return head::fits(case, head::WEIGHTS, 81920);
-    }
-    false
+    head::fits(case, head::LITERALS, 262144) && head::fits(case, head::WEIGHTS, 81920)
 }
 
 pub fn show(to: &mut impl Write, case: &[u32], words: &[u32]) {

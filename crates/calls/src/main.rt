@@ -9,21 +9,13 @@ use std::io::{Read, Write};
 mod clause_text;
 mod clauses;
 
-ghost use Rattle.std.specs.Prelude.{◌<◌};
-
 // What calls_plans and calls_list make: the largest table has 4930 words.
 fn has_plain_room(case: &[u32]) -> bool {
-    if head::fits(case, head::TABLE, 5120) {
-        return head::fits(case, head::TEXT, 131072);
-    }
-    false
+    head::fits(case, head::TABLE, 5120) && head::fits(case, head::TEXT, 131072)
 }
 
 fn has_scratch(case: &[u32]) -> bool {
-    if head::fits(case, head::FIRST, 2048) {
-        return head::fits(case, head::SECOND, 2048);
-    }
-    false
+    head::fits(case, head::FIRST, 2048) && head::fits(case, head::SECOND, 2048)
 }
 
 // Whether there is room for what the entry point is lent; clauses and their text, from 10 on, are judged where they are made.
@@ -70,12 +62,8 @@ fn show_on_given(to: &mut impl Write, case: &[u32], words: &[u32], plan: &[u32],
     let n = head::length(case, head::WORDS);
     let m = head::length(case, head::PLAN);
     let k = head::length(case, head::BYTES);
-    if n <= words.len() {
-        if m <= plan.len() {
-            if k <= bytes.len() {
-                show(to, case, &words[..n], &plan[..m], &bytes[..k]);
-            }
-        }
+    if n <= words.len() && m <= plan.len() && k <= bytes.len() {
+        show(to, case, &words[..n], &plan[..m], &bytes[..k]);
     }
 }
 
@@ -128,28 +116,16 @@ fn run(input: &mut impl Read, to: &mut impl Write, case: &[u32]) -> bool {
 // False if no case is left.
 fn run_case(input: &mut impl Read, to: &mut impl Write) -> bool {
     let mut case = [0u32; 13];
-    if given::read_head(input, &mut case) {
-        return run(input, to, &case);
-    }
-    false
-}
-
-fn turns_left(more: bool, left: u32) -> u32
-    requires { 0 < left }
-    ensures { result < left }
-{
-    if more {
-        return left - 1;
-    }
-    0
+    given::read_head(input, &mut case) && run(input, to, &case)
 }
 
 // A million cases at most.
 fn main(rt: HostRuntime) {
     let mut input = rt.stdin();
     let mut to = rt.stdout();
-    let mut left = 1000000;
-    while left > 0 {
-        left = turns_left(run_case(&mut input, &mut to), left);
+    for _ in 0..1000000 {
+        if !run_case(&mut input, &mut to) {
+            break;
+        }
     }
 }

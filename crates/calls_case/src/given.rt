@@ -3,21 +3,14 @@ use crate::{coded, head};
 use std::io::Read;
 
 fn read_bytes(input: &mut impl Read, n: usize, out: &mut [u8]) -> bool {
-    if n <= out.len() {
-        return prints::read_full(input, &mut out[..n]) == n;
-    }
-    false
+    n <= out.len() && prints::read_full(input, &mut out[..n]) == n
 }
 
 // More than the largest room are not asked for, so the bytes can be counted.
 fn read_numbers(input: &mut impl Read, n: usize, space: &mut [u8], out: &mut [u32]) -> bool {
-    if n <= out.len() {
-        if n <= 8192 {
-            if read_bytes(input, n * 4, space) {
-                coded::put_numbers_of(space, n, out);
-                return true;
-            }
-        }
+    if n <= out.len() && n <= 8192 && read_bytes(input, n * 4, space) {
+        coded::put_numbers_of(space, n, out);
+        return true;
     }
     false
 }
@@ -28,12 +21,9 @@ pub fn read_head(input: &mut impl Read, case: &mut [u32]) -> bool {
 }
 
 pub fn is_small(case: &[u32]) -> bool {
-    if head::length(case, head::WORDS) <= 512 {
-        if head::length(case, head::PLAN) <= 128 {
-            return head::length(case, head::BYTES) <= 2048;
-        }
-    }
-    false
+    head::length(case, head::WORDS) <= 512
+        && head::length(case, head::PLAN) <= 128
+        && head::length(case, head::BYTES) <= 2048
 }
 
 pub fn read_inputs(
@@ -44,10 +34,7 @@ pub fn read_inputs(
     bytes: &mut [u8],
     space: &mut [u8],
 ) -> bool {
-    if read_numbers(input, head::length(case, head::WORDS), space, words) {
-        if read_numbers(input, head::length(case, head::PLAN), space, plan) {
-            return read_bytes(input, head::length(case, head::BYTES), bytes);
-        }
-    }
-    false
+    read_numbers(input, head::length(case, head::WORDS), space, words)
+        && read_numbers(input, head::length(case, head::PLAN), space, plan)
+        && read_bytes(input, head::length(case, head::BYTES), bytes)
 }

@@ -32,10 +32,7 @@ pub const TABLE: usize = 11;
 pub const TEXT: usize = 12;
 
 pub fn number(head: &[u32], i: usize) -> u32 {
-    if i < head.len() {
-        return head[i];
-    }
-    0
+    head.get(i).copied().unwrap_or(0)
 }
 
 pub fn length(head: &[u32], i: usize) -> usize {
@@ -56,9 +53,5 @@ pub fn fits(head: &[u32], i: usize, most: usize) -> bool {
 pub fn cut(head: &[u32], i: usize, most: usize) -> usize
     ensures { result ≤ most }
 {
-    let n = length(head, i);
-    if n <= most {
-        return n;
-    }
-    most
+    length(head, i).min(most)
 }

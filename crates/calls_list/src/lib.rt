@@ -3,15 +3,18 @@
 
 use calls_case::answer::Answer;
 use calls_case::{answer, head, lent};
-use list_in::ReadList;
 use std::io::Write;
 
 fn read_list(text: &[u8], table: &mut [u32], list: &mut [u8]) -> Answer {
     match list_in::read_list(text, table, list) {
-        ReadList::Refused(f) => answer::refused(f),
-        ReadList::Read(hard, side, n, m) => {
-            answer::success(hard as u64, side as u64, n as u64, m as u64, 0)
-        }
+        Err(f) => answer::refused(f),
+        Ok(r) => answer::success(
+            r.hard as u64,
+            r.side as u64,
+            r.words as u64,
+            r.entries as u64,
+            0,
+        ),
     }
 }
 
@@ -30,10 +33,10 @@ fn show_in(
     list: &mut [u8],
     space: &mut [u8],
 ) {
-    lent::fill_words(case, head::TABLE, table);
-    lent::fill_bytes(case, head::TEXT, list);
+    lent::fill(case, head::TABLE, table);
+    lent::fill(case, head::TEXT, list);
     answer::say(to, call(case, text, table, list));
-    lent::say_words(to, case, head::TABLE, table, space);
+    lent::say(to, case, head::TABLE, table, space);
     prints::send(to, list, head::shown(case, head::TEXT));
 }
 

@@ -1,30 +1,25 @@
 // The entry points that are lent room for a plan or for a table: the decoder, and the reader of a sheet.
 use calls_case::answer::Answer;
 use calls_case::{answer, head, lent};
-use decoder::Decoded;
-use sheet_in::ReadSheet;
 use std::io::Write;
 
 // Entry points 5 and 7.
 pub fn are_lent(entry: u32) -> bool {
-    if entry == 5 {
-        return true;
-    }
-    entry == 7
+    entry == 5 || entry == 7
 }
 
 // The list is the case's bytes.
 fn decode(words: &[u32], hard: u32, side: u32, list: &[u8], plan: &mut [u32]) -> Answer {
     match decoder::decode(words, hard, side, list, plan) {
-        Decoded::Refused(f) => answer::refused(f),
-        Decoded::Cost(sum) => answer::success(sum, 0, 0, 0, 0),
+        Err(f) => answer::refused(f),
+        Ok(sum) => answer::success(sum, 0, 0, 0, 0),
     }
 }
 
 fn read_sheet(text: &[u8], table: &mut [u32]) -> Answer {
     match sheet_in::read_sheet(text, table) {
-        ReadSheet::Refused(f) => answer::refused(f),
-        ReadSheet::Read(hard, side, n) => answer::success(hard as u64, side as u64, n as u64, 0, 0),
+        Err(f) => answer::refused(f),
+        Ok(r) => answer::success(r.hard as u64, r.side as u64, r.words as u64, 0, 0),
     }
 }
 
@@ -51,9 +46,9 @@ fn show_in(
     out: &mut [u32],
     space: &mut [u8],
 ) {
-    lent::fill_words(case, head::TABLE, out);
+    lent::fill(case, head::TABLE, out);
     answer::say(to, call_lent(case, words, bytes, out));
-    lent::say_words(to, case, head::TABLE, out, space);
+    lent::say(to, case, head::TABLE, out, space);
 }
 
 pub fn show(to: &mut impl Write, case: &[u32], words: &[u32], bytes: &[u8]) {

@@ -1,21 +1,19 @@
 // The entry points that are lent room for a list or for a sheet: the list maker, and the writer of a sheet.
 use calls_case::answer::Answer;
 use calls_case::{answer, head, lent};
-use decoder::Made;
-use sheet_out::Written;
 use std::io::Write;
 
 fn make_list(words: &[u32], hard: u32, side: u32, plan: &[u32], list: &mut [u8]) -> Answer {
     match maker::make_list(words, hard, side, plan, list) {
-        Made::Refused(f) => answer::refused(f),
-        Made::Written(n) => answer::success(n as u64, 0, 0, 0, 0),
+        Err(f) => answer::refused(f),
+        Ok(n) => answer::success(n as u64, 0, 0, 0, 0),
     }
 }
 
 fn write_sheet(words: &[u32], hard: u32, side: u32, text: &mut [u8]) -> Answer {
     match sheet_out::write_sheet(words, hard, side, text) {
-        Written::Refused(f) => answer::refused(f),
-        Written::Text(n) => answer::success(n as u64, 0, 0, 0, 0),
+        Err(f) => answer::refused(f),
+        Ok(n) => answer::success(n as u64, 0, 0, 0, 0),
     }
 }
 
@@ -36,7 +34,7 @@ fn call_lent(case: &[u32], words: &[u32], plan: &[u32], out: &mut [u8]) -> Answe
 }
 
 fn show_in(to: &mut impl Write, case: &[u32], words: &[u32], plan: &[u32], out: &mut [u8]) {
-    lent::fill_bytes(case, head::TEXT, out);
+    lent::fill(case, head::TEXT, out);
     answer::say(to, call_lent(case, words, plan, out));
     prints::send(to, out, head::shown(case, head::TEXT));
 }

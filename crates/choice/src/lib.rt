@@ -29,6 +29,7 @@ fn points(long: usize) -> u32
 }
 
 // What value `j` adds.
+#[tactic(auto, using(crate::proofs::Tallies::share_full, crate::proofs::Tallies::share_partly, ends::proofs::Ends::theirs_few, ends::proofs::Ends::supports_few, ends::proofs::Ends::full_yes, ends::proofs::Ends::full_no))]
 fn share(words: &[u32], seen: Seen, j: u32) -> EndTally
     requires { SeenWell words.now seen × In 1 seen.mine j }
     ensures { result ≡ tally_of (support_at (end_of words.now seen) [] j) }
@@ -51,21 +52,19 @@ fn share(words: &[u32], seen: Seen, j: u32) -> EndTally
 }
 
 // The tally of all values of the box that sees the pair.
+#[tactic(auto, using(ends::proofs::Ends::mine_few, ends::proofs::Ends::theirs_few, crate::proofs::Tallies::shared_few))]
 pub fn tally(words: &[u32], seen: Seen) -> EndTally
     requires { SeenWell words.now seen }
     ensures { result ≡ end_tally (end_of words.now seen) }
 {
-    let mine = seen.mine;
     let mut clauses = 0;
     let mut literals = 0;
     let mut score = 0;
-    let mut j = 1;
-    while j <= mine {
+    for j in 1..seen.mine + 1 {
         let value = share(words, seen, j);
         clauses += value.clauses;
         literals += value.literals;
         score += value.score;
-        j += 1;
     }
     EndTally {
         clauses,

@@ -2,7 +2,9 @@
 #![tactic(auto)]
 
 ghost use Rattle.std.specs.Prelude.{◌≡◌};
-ghost use Rattle.clause.specs.Encodings.{with_side_lem, picked_of};
+ghost use Rattle.clause.specs.Encodings.{picked_of, GivesHard, GivesSide};
+
+use refusal::Refusal;
 
 // The hard part: how the clauses of a box say that it has one value.
 #[derive(Clone, Copy)]
@@ -27,57 +29,43 @@ pub struct Encoding {
     pub side: Side,
 }
 
-#[derive(Clone, Copy)]
-pub enum Picked {
-    Known(Encoding),
-    Unknown,
+impl TryFrom<u32> for Hard {
+    type Error = Refusal;
+
+    ghost try_from_gives = { GivesHard };
+
+    fn try_from(number: u32) -> Result<Self, Refusal> {
+        match number {
+            0 => Ok(Hard::Standard),
+            1 => Ok(Hard::Regular),
+            _ => Err(Refusal::Choice),
+        }
+    }
 }
 
-fn with_side(hard: Hard, side: u32) -> Picked
-    ensures { result ≡ with_side_lem hard side }
-{
-    if side == 1 {
-        return Picked::Known(Encoding {
-            hard,
-            side: Side::Direct,
-        });
+impl TryFrom<u32> for Side {
+    type Error = Refusal;
+
+    ghost try_from_gives = { GivesSide };
+
+    fn try_from(number: u32) -> Result<Self, Refusal> {
+        match number {
+            1 => Ok(Side::Direct),
+            2 => Ok(Side::Support),
+            3 => Ok(Side::First),
+            4 => Ok(Side::Literals),
+            5 => Ok(Side::Score),
+            _ => Err(Refusal::Choice),
+        }
     }
-    if side == 2 {
-        return Picked::Known(Encoding {
-            hard,
-            side: Side::Support,
-        });
-    }
-    if side == 3 {
-        return Picked::Known(Encoding {
-            hard,
-            side: Side::First,
-        });
-    }
-    if side == 4 {
-        return Picked::Known(Encoding {
-            hard,
-            side: Side::Literals,
-        });
-    }
-    if side == 5 {
-        return Picked::Known(Encoding {
-            hard,
-            side: Side::Score,
-        });
-    }
-    Picked::Unknown
 }
 
 // The encoding with these numbers of document 01.
-pub fn pick(hard: u32, side: u32) -> Picked
+#[tactic(auto, unfolding(crate::specs::Encodings::picked_of))]
+pub fn pick(hard: u32, side: u32) -> Result<Encoding, Refusal>
     ensures { result ≡ picked_of hard side }
 {
-    if hard == 0 {
-        return with_side(Hard::Standard, side);
-    }
-    if hard == 1 {
-        return with_side(Hard::Regular, side);
-    }
-    Picked::Unknown
+    let hard = Hard::try_from(hard)?;
+    let side = Side::try_from(side)?;
+    Ok(Encoding { hard, side })
 }

@@ -19,6 +19,7 @@ pub struct Written {
 }
 
 // The list, its weights, and both scratch slices put in order.
+#[tactic(auto, using(clause::proofs::Turns::weights_count), unfolding(clause::specs::Lengths::entry_count))]
 pub fn write_all(
     words: &[u32],
     counts: Counts,

@@ -11,10 +11,7 @@ use refusal::Refusal;
 fn place_code(place: usize) -> u64
     ensures { result ≡ min place 72057594037927935 }
 {
-    if place < 72057594037927935 {
-        return place as u64;
-    }
-    72057594037927935
+    (place as u64).min(72057594037927935)
 }
 
 // A refusal's number in the top byte, its place in the seven below.

@@ -4,11 +4,8 @@
 
 ghost use Rattle.std.specs.Prelude.{◌≤◌, length};
 
-use decoder::Decoded;
-use list_in::ReadList;
 use refusal::Refusal;
-use std::io::Write;
-use table::Checked;
+use std::io::{Read, Write};
 
 // A value line is at most 17 bytes long and the cost line 26.
 fn print_plan(to: &mut impl Write, plan: &[u32], cost: u64)
@@ -19,54 +16,45 @@ fn print_plan(to: &mut impl Write, plan: &[u32], cost: u64)
     prints::send(to, &text, n);
 }
 
-fn stop(to: &mut impl Write, answer: Decoded) {
-    match answer {
-        Decoded::Refused(f) => prints::refuse(to, f),
-        Decoded::Cost(_) => {}
-    }
-}
-
-// The plan of a table of `n` boxes.
-fn print_decoded(to: &mut impl Write, words: &[u32], n: usize, hard: u32, side: u32, list: &[u8])
-    requires { n ≤ 64 }
-{
+// The plan of a list for the table of these words. The decoder's answer is taken apart at once, by the form that 01 names: a refusal is handed on as it is.
+fn print_decoded(
+    to: &mut impl Write,
+    words: &[u32],
+    hard: u32,
+    side: u32,
+    list: &[u8],
+) -> Result<(), Refusal> {
+    let counts = table_check::check(words)?;
     let mut plan = [0u32; 64];
     let answer = decoder::decode(words, hard, side, list, &mut plan);
-    let Decoded::Cost(cost) = answer else {
-        stop(to, answer);
-        return;
+    let Ok(cost) = answer else {
+        return answer.and(Ok(()));
     };
-    print_plan(to, &plan[..n], cost);
-}
-
-fn print_words(to: &mut impl Write, words: &[u32], hard: u32, side: u32, list: &[u8]) {
-    match table_check::check(words) {
-        Checked::Refused(f) => prints::refuse(to, f),
-        Checked::Accepted(counts) => {
-            let n = counts.boxes;
-            print_decoded(to, words, n, hard, side, list);
-        }
-    }
+    print_plan(to, &plan[..counts.boxes], cost);
+    Ok(())
 }
 
 // A table has at most 2 words, 64 sizes and 256 pairs of 19 words; a list at most 16 values and 15 thresholds a box and 256 c_k.
-fn judge(to: &mut impl Write, text: &[u8]) {
+fn judge(to: &mut impl Write, text: &[u8]) -> Result<(), Refusal> {
     let mut table = [0u32; 4930];
     let mut list = [0u8; 2240];
-    match list_in::read_list(text, &mut table, &mut list) {
-        ReadList::Refused(f) => prints::refuse(to, f),
-        ReadList::Read(hard, side, n, m) => print_words(to, &table[..n], hard, side, &list[..m]),
-    }
+    let read = list_in::read_list(text, &mut table, &mut list)?;
+    let words = &table[..read.words];
+    let entries = &list[..read.entries];
+    print_decoded(to, words, read.hard, read.side, entries)
 }
 
 // One byte more than an input may have tells a longer one.
+fn answer(input: &mut impl Read, to: &mut impl Write) -> Result<(), Refusal> {
+    let mut text = [0u8; 65537];
+    let n = prints::read_input(input, &mut text)?;
+    judge(to, &text[..n])
+}
+
+// stays beside the other program's, which has the same lines: a function that took `judge` from its caller could promise nothing of what is written
 fn main(rt: HostRuntime) {
     let mut to = rt.stdout();
-    let mut input = [0u8; 65537];
-    let got = prints::read_full(&mut rt.stdin(), &mut input);
-    if got > 65536 {
-        prints::refuse(&mut to, Refusal::Room(0));
-        return;
+    if let Err(f) = answer(&mut rt.stdin(), &mut to) {
+        prints::refuse(&mut to, f);
     }
-    judge(&mut to, &input[..got]);
 }

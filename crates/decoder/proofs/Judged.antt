@@ -1,17 +1,15 @@
 -- The plan that is put after the judgement of a list, and the answer: each exit of the code is one case of the definitions.
 use mathlib.Core.Path.{◌≡◌, refl}
-use mathlib.Core.Option.{none, some}
+use mathlib.Core.Option.{none}
 use mathlib.Core.List.{List, map}
-use Prim.Native.Nat.{ℕ, ◌+◌, ◌-◌, ◌≤◌, ◌<◌}
+use Prim.Native.Nat.{ℕ, ◌+◌, ◌-◌, ◌≤◌}
 use native.Mathlib.Nat.{zero-add}
 use native.Mathlib.Omega.{arith}
 use lib.ListN.{length, take}
-use borrow.Author.Tests.{le-leb, lt-leb}
+use borrow.Author.Tests.{le-leb}
 use Rattle.lists.specs.Lists.{count}
 use Rattle.lists.specs.Stores.{Wrote}
 use Rattle.lists.proofs.Stores.{sets_begins}
-use Rattle.refusal.specs.declared.Refusal.{Refusal}
-use Rattle.refusal.specs.declared.Refusal.TheVariants.{Room}
 use Rattle.table.specs.Table.{Table, boxes}
 use Rattle.table.specs.Words.{box_count, table_of, Accepted}
 use Rattle.table.proofs.Tables.{table_boxes}
@@ -34,14 +32,6 @@ plan_whole ws A l n e =
 -- ---- the answer
 
 module _ (e : Encoding) (t : Table) (l : List ℕ) (room : ℕ) where
-  pub answer_wrong : {f : Refusal} → list_fault e.hard e.side t l ≡ some f → decode_fault e t l room ≡ some f
-  unfolding decode_fault
-  answer_wrong w = rw w
-
-  pub answer_short : list_fault e.hard e.side t l ≡ none → room < boxes t → decode_fault e t l room ≡ some (Room (boxes t))
-  unfolding decode_fault
-  answer_short w h = rw (w, lt-leb (boxes t) room h)
-
   pub answer_fine : list_fault e.hard e.side t l ≡ none → boxes t ≤ room → decode_fault e t l room ≡ none
   unfolding decode_fault
   answer_fine w h = rw (w, le-leb (boxes t) room h)

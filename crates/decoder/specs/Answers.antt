@@ -1,21 +1,18 @@
 -- The answers of the decoder and of the list maker, and what their lent buffers hold after.
-use Rattle.std.specs.Prelude.{ℕ, List, [], ◌∷◌, length, leb}
+use Rattle.std.specs.Prelude.{ℕ, List, [], ◌∷◌, length, leb, Result, Ok, Err}
 use Rattle.std.proofs.Math.Option.{Option, none, some}
 use Rattle.std.proofs.lemmas.List.Edits.{sets}
 use Rattle.lists.specs.Firsts.{◌then◌, unless}
 use Rattle.refusal.specs.declared.Refusal.{Refusal}
 use Rattle.refusal.specs.declared.Refusal.TheVariants.{Room}
-use Rattle.refusal.specs.Refusals.{Says, gives, refusal_says}
+use Rattle.refusal.specs.Refusals.{result_of, Says, gives, refusal_says}
 use Rattle.table.specs.Table.{Table, boxes}
 use Rattle.table.specs.Words.{Outcome}
 use Rattle.plan.specs.Plan.{cost, plan_fault}
 use Rattle.clause.specs.declared.Encoding.{Encoding}
-use Rattle.clause.specs.declared.Picked.{Picked}
 use Rattle.clause.specs.Numbers.{variables}
 use Rattle.asked.specs.Asked.{over}
 use Rattle.list_judge.specs.Faults.{list_fault}
-use Rattle.decoder.specs.declared.Decoded.{Decoded}
-use Rattle.decoder.specs.declared.Made.{Made}
 use Rattle.decoder.specs.Lists.{plan_of, made}
 
 -- ---- what a refusal leaves, and success
@@ -35,22 +32,18 @@ buffer_with (some f) old vs = old
 unfoldable pub decode_fault : Encoding → Table → List ℕ → ℕ → Option Refusal
 decode_fault e t l room = list_fault e.hard e.side t l then room_fault (boxes t) room
 
-abbrev pub decoded_with : Option Refusal → ℕ → Decoded
-decoded_with none c = Decoded.Cost c
-decoded_with (some f) c = Decoded.Refused f
-
 -- 8, then the table's refusals, then those over an accepted table; else the cost
-abbrev pub decoded_of : Picked → Outcome → List ℕ → (room : ℕ) → Decoded
-decoded_of p o l room = over p o Decoded.Refused (λ e t. decoded_with (decode_fault e t l room) (cost t (plan_of t l)))
+abbrev pub decoded_of : Result Encoding Refusal → Outcome → List ℕ → (room : ℕ) → Result ℕ Refusal
+decoded_of p o l room = over p o Err (λ e t. result_of (decode_fault e t l room) (cost t (plan_of t l)))
 
 -- what the lent plan holds after, if it held `old`
-abbrev pub plan_after : Picked → Outcome → List ℕ → (old : List ℕ) → List ℕ
+abbrev pub plan_after : Result Encoding Refusal → Outcome → List ℕ → (old : List ℕ) → List ℕ
 plan_after p o l old = over p o (λ f. old) (λ e t. buffer_with (decode_fault e t l (length old)) old (plan_of t l))
 
 -- success gives the cost
-abbrev pub decoded_says : Decoded → Says
-decoded_says (Decoded.Refused f) = refusal_says f
-decoded_says (Decoded.Cost c) = gives (c ∷ [])
+abbrev pub decoded_says : Result ℕ Refusal → Says
+decoded_says (Err f) = refusal_says f
+decoded_says (Ok c) = gives (c ∷ [])
 
 -- ---- the list maker: the lent list has `room` entries
 
@@ -58,18 +51,14 @@ decoded_says (Decoded.Cost c) = gives (c ∷ [])
 unfoldable pub make_fault : Encoding → Table → List ℕ → ℕ → Option Refusal
 make_fault e t plan room = plan_fault t plan then room_fault (variables t e.hard e.side) room
 
-abbrev pub made_with : Option Refusal → ℕ → Made
-made_with none n = Made.Written n
-made_with (some f) n = Made.Refused f
-
-abbrev pub made_of : Picked → Outcome → List ℕ → (room : ℕ) → Made
-made_of p o plan room = over p o Made.Refused (λ e t. made_with (make_fault e t plan room) (variables t e.hard e.side))
+abbrev pub made_of : Result Encoding Refusal → Outcome → List ℕ → (room : ℕ) → Result ℕ Refusal
+made_of p o plan room = over p o Err (λ e t. result_of (make_fault e t plan room) (variables t e.hard e.side))
 
 -- what the lent list holds after, if it held `old`
-abbrev pub list_after : Picked → Outcome → List ℕ → (old : List ℕ) → List ℕ
+abbrev pub list_after : Result Encoding Refusal → Outcome → List ℕ → (old : List ℕ) → List ℕ
 list_after p o plan old = over p o (λ f. old) (λ e t. buffer_with (make_fault e t plan (length old)) old (made e.hard e.side t plan))
 
 -- success gives the length of the list
-abbrev pub made_says : Made → Says
-made_says (Made.Refused f) = refusal_says f
-made_says (Made.Written n) = gives (n ∷ [])
+abbrev pub made_says : Result ℕ Refusal → Says
+made_says (Err f) = refusal_says f
+made_says (Ok n) = gives (n ∷ [])

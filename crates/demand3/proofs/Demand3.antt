@@ -1,9 +1,11 @@
 -- Demand 3, sentence by sentence, for every sound table, both hard parts and all five sides: accepted lists and plans say the same, at the same price.
+use Rattle.std.specs.Prelude.{Result, Ok, Err, cond}
+use Rattle.clause.specs.Encodings.{picked_of, hard_of, side_of, both_of}
 use mathlib.Core.Path.{◌≡◌, refl, sym, ap, ◌∙◌}
 use mathlib.Core.Logic.Iff
 use mathlib.Core.Logic.{◌↔◌, ◌≢◌}
-use mathlib.Core.Bool.{false}
-use mathlib.Core.Option.{Option, none, some}
+use mathlib.Core.Bool.{Bool, true, false}
+use mathlib.Core.Option.{none}
 use mathlib.Core.List.{List, [], ◌∷◌}
 use Prim.Native.Nat.{ℕ, ◌≤◌, ◌<◌}
 use native.Mathlib.Omega.{arith}
@@ -12,22 +14,22 @@ use lib.Dec.{eqb}
 use borrow.Author.Tests.{le-leb}
 use Rattle.lists.specs.Lists.{nth, Each}
 use Rattle.refusal.specs.declared.Refusal.{Refusal}
+use Rattle.refusal.specs.declared.Refusal.TheVariants.{Choice}
 use Rattle.refusal.specs.Refusals.{gives, refuses, refusal_says}
+use Rattle.refusal.proofs.Results.{result_ok}
 use Rattle.table.specs.Table.{Table, boxes, size, In, Sound}
 use Rattle.table.specs.Words.{Outcome, refused, accepted}
 use Rattle.plan.specs.Plan.{IsPlan, cost}
 use Rattle.clause.specs.declared.Hard.{Hard}
 use Rattle.clause.specs.declared.Side.{Side}
 use Rattle.clause.specs.declared.Encoding.{Encoding}
-use Rattle.clause.specs.declared.Picked.TheVariants.{Known, Unknown}
 use Rattle.clause.specs.Clause.{reads, falsified, hard_true}
 use Rattle.clause.specs.Numbers.{switches, x, c, variables}
 use Rattle.clause.specs.List.{clauses}
-use Rattle.decoder.specs.declared.Decoded.{Decoded}
 use Rattle.list_boxes.specs.Lists.{Bit}
 use Rattle.list_judge.specs.Faults.{list_fault}
 use Rattle.decoder.specs.Lists.{plan_of, made}
-use Rattle.decoder.specs.Answers.{decode_fault, decoded_with, decoded_of, plan_after, decoded_says}
+use Rattle.decoder.specs.Answers.{decode_fault, decoded_of, plan_after, decoded_says}
 use Rattle.demand3.specs.Accepted.{Accepts, LowestEntry, LowestBroken}
 use Rattle.lists.proofs.Stores.{sets_begins}
 use Rattle.lists.proofs.Search.{then_exact}
@@ -36,10 +38,6 @@ use Rattle.demand3.proofs.HardClauses.{accepted_fits, fits_cost}
 use Rattle.demand3.proofs.ListOfPlan.{made_switch, made_accepted, made_plan}
 use Rattle.demand3.proofs.Faults.{list_exact}
 use Rattle.demand3.proofs.Verdicts.{decode_says, wrong_length, wrong_entry, wrong_box, no_room, fine, exactly, breaks, broken}
-
-decoded_cost : (o : Option Refusal) (c : ℕ) {d : ℕ} → decoded_with o c ≡ Decoded.Cost d → o ≡ none
-decoded_cost none c e = refl
-decoded_cost (some f) c e = cc
 
 -- A table that the check accepts is sound: `accepted-sound` of the table crate.
 module _ (h : Hard) (s : Side) (t : Table) (S : Sound t) where
@@ -50,16 +48,16 @@ module _ (h : Hard) (s : Side) (t : Table) (S : Sound t) where
 
   -- Given room for the plan, the decoder answers with a cost exactly then,
   pub decodes_exactly : (l : List ℕ) (room : ℕ) → boxes t ≤ room
-      → ((c : ℕ) × (decoded_of (Known (record { hard = h; side = s })) (accepted t) l room ≡ Decoded.Cost c)) ↔ Accepts h s t l
+      → ((c : ℕ) × (decoded_of (Ok (record { hard = h; side = s })) (accepted t) l room ≡ Ok c)) ↔ Accepts h s t l
   unfolding decode_fault
   decodes_exactly l room q = (
-    λ w. (accepted_exactly l).0 ((then_exact (list_fault h s t l) _).0 (decoded_cost _ (cost t (plan_of t l)) w.1)).0,
+    λ w. (accepted_exactly l).0 ((then_exact (list_fault h s t l) _).0 ((result_ok _ (cost t (plan_of t l)) w.1).0)).0,
     λ A. (cost t (plan_of t l), rw ((accepted_exactly l).1 A, le-leb (boxes t) room q)),
   )
 
   -- and then the lent plan begins with the list's plan.
   pub decodes_plan : (l old : List ℕ) → Accepts h s t l → boxes t ≤ length old
-      → take (boxes t) (plan_after (Known (record { hard = h; side = s })) (accepted t) l old) ≡ plan_of t l
+      → take (boxes t) (plan_after (Ok (record { hard = h; side = s })) (accepted t) l old) ≡ plan_of t l
   unfolding decode_fault
   decodes_plan l old A q = rw ((accepted_exactly l).1 A, le-leb (boxes t) (length old) q) (sets_begins (plan_of t l) old (boxes t) (plan_long t l) q)
 
@@ -140,9 +138,31 @@ module _ (h : Hard) (s : Side) (t : Table) (S : Sound t) where
     gives_cost c = Iff.trans (exactly h s t S l room (gives (c ∷ []))) (λ v. elim v [ fine A q z ↦ (A, q, z) ], λ (A, q, z). fine A q z)
 
 -- Before them stand 8, place 0, for an unknown hard part or side,
-pub refuses_choice : (o : Outcome) (l : List ℕ) (room : ℕ) → decoded_says (decoded_of Unknown o l room) ≡ refuses 8 0
+pub refuses_choice : (o : Outcome) (l : List ℕ) (room : ℕ) → decoded_says (decoded_of (Err Choice) o l room) ≡ refuses 8 0
 refuses_choice o l room = refl
 
+-- No other error is made of the two numbers, so these words are those of every unknown encoding.
+step : {A : Type 0} (b : Bool) (x : A) (r : Result A Refusal) {f : Refusal} → (r ≡ Err f → f ≡ Choice) → cond b (Ok x) r ≡ Err f → f ≡ Choice
+step true x r k e = cc
+step false x r k e = k e
+
+pub unknown_choice : (h n : ℕ) {f : Refusal} → picked_of h n ≡ Err f → f ≡ Choice
+unfolding picked_of
+unknown_choice h n {f} = by (hard_of h) (side_of n) (step (eqb h 0) _ _ (step (eqb h 1) _ _ last))
+    (step (eqb n 1) _ _ (step (eqb n 2) _ _ (step (eqb n 3) _ _ (step (eqb n 4) _ _ (step (eqb n 5) _ _ last)))))
+  where
+    last : {A : Type 0} → ◌≡◌ {A = Result A Refusal} (Err Choice) (Err f) → f ≡ Choice
+    last e = cc
+
+    by : (x : Result Hard Refusal) (y : Result Side Refusal) → (x ≡ Err f → f ≡ Choice) → (y ≡ Err f → f ≡ Choice)
+        → both_of x y ≡ Err f → f ≡ Choice
+    by (Err g) y p q e = p (let z : g ≡ f = cc in rw z)
+    by (Ok a) (Err g) p q e = q (let z : g ≡ f = cc in rw z)
+    by (Ok a) (Ok b) p q e = cc
+
+pub refuses_unknown : (h n : ℕ) {f : Refusal} (o : Outcome) (l : List ℕ) (room : ℕ) → picked_of h n ≡ Err f → decoded_says (decoded_of (picked_of h n) o l room) ≡ refuses 8 0
+refuses_unknown h n {f} o l room e = rw (e, unknown_choice h n e)
+
 -- and the table's refusals, as the check says them.
-pub refuses_table : (e : Encoding) (f : Refusal) (l : List ℕ) (room : ℕ) → decoded_says (decoded_of (Known e) (refused f) l room) ≡ refusal_says f
+pub refuses_table : (e : Encoding) (f : Refusal) (l : List ℕ) (room : ℕ) → decoded_says (decoded_of (Ok e) (refused f) l room) ≡ refusal_says f
 refuses_table e f l room = refl

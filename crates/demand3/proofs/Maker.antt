@@ -1,4 +1,5 @@
 -- The list maker in document 01's terms: over an accepted table one of four verdicts holds for a plan, and what it says is the verdict's.
+use Rattle.std.specs.Prelude.{Ok}
 use mathlib.Core.Path.{◌≡◌, refl, sym, ◌∙◌, subst}
 use mathlib.Core.Logic.Iff
 use mathlib.Core.Logic.{◌↔◌, ◌≢◌, ⊎_elim}
@@ -11,26 +12,25 @@ use borrow.Author.Tests.{le-leb, lt-leb}
 use Rattle.lists.specs.Firsts.{◌then◌}
 use Rattle.lists.proofs.Truth.{order, same}
 use Rattle.refusal.specs.declared.Refusal.{Refusal}
-use Rattle.refusal.specs.Refusals.{Says, gives, refuses}
+use Rattle.refusal.specs.Refusals.{Says, gives, refuses, result_of}
 use Rattle.table.specs.Table.{Table, boxes, size, words_of, In, Sound}
 use Rattle.table.specs.Words.{accepted}
 use Rattle.table.proofs.Round.{sound_accepted}
-use Rattle.plan.specs.Plan.{IsPlan, LowestOut, cost, value_fault, plan_fault, costed_with, costed_says}
+use Rattle.plan.specs.Plan.{IsPlan, LowestOut, cost, value_fault, plan_fault, costed_says}
 use Rattle.plan.proofs.Plans.{value_none, none_value, plan_values, plan_fine, fine_plan}
 use Rattle.plan.proofs.Promises.{cost_says, cost_length, cost_entry}
 use Rattle.clause.specs.declared.Hard.{Hard}
 use Rattle.clause.specs.declared.Side.{Side}
-use Rattle.clause.specs.declared.Picked.TheVariants.{Known}
 use Rattle.clause.specs.Numbers.{variables}
 use Rattle.decoder.specs.Lists.{made}
-use Rattle.decoder.specs.Answers.{room_fault, make_fault, made_with, made_of, list_after, made_says}
+use Rattle.decoder.specs.Answers.{room_fault, make_fault, made_of, list_after, made_says}
 use Rattle.lists.proofs.Stores.{sets_begins}
 use Rattle.lists.proofs.Search.{clear_exact, lowest}
 use Rattle.maker.proofs.Long.{made_long}
 
 -- what the list maker says of a plan over an accepted table, lent a list of `room` entries
 abbrev pub make_says : Hard → Side → Table → List ℕ → ℕ → Says
-make_says h s t plan room = made_says (made_of (Known (record { hard = h; side = s })) (accepted t) plan room)
+make_says h s t plan room = made_says (made_of (Ok (record { hard = h; side = s })) (accepted t) plan room)
 
 module _ (h : Hard) (s : Side) (t : Table) (S : Sound t) (plan : List ℕ) (room : ℕ) where
   -- how many entries are needed
@@ -74,8 +74,8 @@ module _ (h : Hard) (s : Side) (t : Table) (S : Sound t) (plan : List ℕ) (room
   unfolding make_fault
   as_cost {number} {place} e = go (plan_fault t plan) (rw (sound_accepted t S) at e)
     where
-      go : (o : Option Refusal) → costed_says (costed_with o (cost t plan)) ≡ refuses number place
-          → made_says (made_with (o then room_fault (variables t h s) room) (variables t h s)) ≡ refuses number place
+      go : (o : Option Refusal) → costed_says (result_of o (cost t plan)) ≡ refuses number place
+          → made_says (result_of (o then room_fault (variables t h s) room) (variables t h s)) ≡ refuses number place
       go none q = absurd (let z : ◌≡◌ {A = ℕ} 0 1 = cc in omega arith)
       go (some f) q = q
 
@@ -109,7 +109,7 @@ module _ (h : Hard) (s : Side) (t : Table) (S : Sound t) (plan : List ℕ) (room
 
 -- And then the lent list begins with the list made from the plan.
 pub make_list_lem : (h : Hard) (s : Side) (t : Table) (plan old : List ℕ) → IsPlan t plan → variables t h s ≤ length old
-    → take (variables t h s) (list_after (Known (record { hard = h; side = s })) (accepted t) plan old) ≡ made h s t plan
+    → take (variables t h s) (list_after (Ok (record { hard = h; side = s })) (accepted t) plan old) ≡ made h s t plan
 unfolding make_fault
 make_list_lem h s t plan old P q =
     rw (plan_fine t plan P, le-leb (variables t h s) (length old) q) (sets_begins (made h s t plan) old (variables t h s) (made_long t plan h s) q)

@@ -1,4 +1,5 @@
 -- Over an accepted table one of five verdicts holds for a list, and what the decoder says is the verdict's.
+use Rattle.std.specs.Prelude.{Ok}
 use mathlib.Core.Path.{◌≡◌, refl, sym, ◌∙◌, subst}
 use mathlib.Core.Logic.{◌↔◌, ◌≢◌, ◌⊎◌, inl, inr, ⊎_elim}
 use mathlib.Core.Bool.{true, false}
@@ -16,7 +17,6 @@ use Rattle.table.specs.Words.{accepted}
 use Rattle.plan.specs.Plan.{cost}
 use Rattle.clause.specs.declared.Hard.{Hard}
 use Rattle.clause.specs.declared.Side.{Side}
-use Rattle.clause.specs.declared.Picked.TheVariants.{Known}
 use Rattle.clause.specs.Clause.{reads, hard_true}
 use Rattle.clause.specs.Numbers.{variables}
 use Rattle.clause.specs.List.{clauses}
@@ -32,7 +32,7 @@ use Rattle.demand3.proofs.Faults.{list_exact, list_entry, list_box}
 
 -- what the decoder says of a list over an accepted table, lent a plan of `room` entries
 abbrev pub decode_says : Hard → Side → Table → List ℕ → ℕ → Says
-decode_says h s t l room = decoded_says (decoded_of (Known (record { hard = h; side = s })) (accepted t) l room)
+decode_says h s t l room = decoded_says (decoded_of (Ok (record { hard = h; side = s })) (accepted t) l room)
 
 module _ (h : Hard) (s : Side) (t : Table) (S : Sound t) (l : List ℕ) (room : ℕ) where
   -- how many entries are wanted

@@ -11,6 +11,7 @@ ghost use Rattle.ends.specs.Seen.{end_of, SeenWell};
 use ends::Seen;
 
 // How many clauses value `j` has: one for each value of the other box that does not support it.
+#[tactic(auto, using(crate::proofs::Direct::row_split, ends::proofs::Ends::supports_few))]
 fn row_count(words: &[u32], seen: Seen, j: u32) -> usize
     requires { SeenWell words.now seen × In 1 seen.mine j }
     ensures { result ≡ length (direct_row (end_of words.now seen) j) }
@@ -21,21 +22,20 @@ fn row_count(words: &[u32], seen: Seen, j: u32) -> usize
 }
 
 // How many clauses the pair has.
+#[tactic(auto, using(crate::proofs::Direct::row_split, ends::proofs::Ends::mine_few, ends::proofs::Ends::theirs_few))]
 pub fn direct_count(words: &[u32], seen: Seen) -> usize
     requires { SeenWell words.now seen }
     ensures { result ≡ length (direct_clauses (end_of words.now seen)) }
 {
-    let mine = seen.mine;
     let mut sum = 0;
-    let mut j = 1;
-    while j <= mine {
+    for j in 1..seen.mine + 1 {
         sum += row_count(words, seen, j);
-        j += 1;
     }
     sum
 }
 
 // The clause of value `j` and the other box's value `i`, if they are not allowed together.
+#[tactic(auto, using(crate::proofs::Direct::allowed_text, crate::proofs::Direct::forbidden_text, crate::proofs::Direct::forbidden_room, ends::proofs::Ends::mine_few, ends::proofs::Ends::theirs_few, lists::proofs::Stores::wrote_none, lists::proofs::Stores::wrote_append))]
 fn put_forbidden(words: &[u32], seen: Seen, j: u32, i: u32, out: &mut [i32], at: usize) -> usize
     requires { SeenWell words.now seen × In 1 seen.mine j × In 1 seen.theirs i
         × (at + length (entries_of (direct_at (end_of words.now seen) j i)) < 2 ^ 64) }
@@ -52,32 +52,28 @@ fn put_forbidden(words: &[u32], seen: Seen, j: u32, i: u32, out: &mut [i32], at:
 }
 
 // The clauses of value `j`, the other box's values rising.
+#[tactic(auto, using(ends::proofs::Ends::theirs_few, ends::proofs::Texts::turn_none))]
 fn put_row(words: &[u32], seen: Seen, j: u32, out: &mut [i32], from: usize) -> usize
     requires { SeenWell words.now seen × In 1 seen.mine j
         × (from + length (entries_of (direct_row (end_of words.now seen) j)) < 2 ^ 64) }
     ensures { Wrote out.old from (entries_of (direct_row (end_of words.now seen) j)) result out.new }
 {
-    let theirs = seen.theirs;
     let mut at = from;
-    let mut i = 1;
-    while i <= theirs {
+    for i in 1..seen.theirs + 1 {
         at = put_forbidden(words, seen, j, i, out, at);
-        i += 1;
     }
     at
 }
 
 // The clauses of all values, rising.
+#[tactic(auto, using(ends::proofs::Ends::mine_few, ends::proofs::Texts::turn_none))]
 pub fn put_direct(words: &[u32], seen: Seen, out: &mut [i32], from: usize) -> usize
     requires { SeenWell words.now seen × (from + length (entries_of (direct_clauses (end_of words.now seen))) < 2 ^ 64) }
     ensures { Wrote out.old from (entries_of (direct_clauses (end_of words.now seen))) result out.new }
 {
-    let mine = seen.mine;
     let mut at = from;
-    let mut j = 1;
-    while j <= mine {
+    for j in 1..seen.mine + 1 {
         at = put_row(words, seen, j, out, at);
-        j += 1;
     }
     at
 }

@@ -1,30 +1,28 @@
 // encode: one sheet on standard input, its WCNF text on standard output, part by part. A refusal prints one line and nothing else.
 #![tactic(auto)]
 
-ghost use Rattle.std.specs.Prelude.{◌≡◌, ◌^◌, ◌≤◌, ◌<◌, length};
+ghost use Rattle.std.specs.Prelude.{◌≡◌, ◌^◌, ◌≤◌, ◌<◌, length, IfSome};
 ghost use Rattle.table.specs.Table.{In};
 ghost use Rattle.table.specs.Words.{box_count, Accepted, PairStands};
 ghost use Rattle.table.specs.Answers.{Counted};
 
-use asked::Asked;
 use clause::{Encoding, Hard, Side};
 use refusal::Refusal;
-use sheet_in::ReadSheet;
-use std::io::Write;
+use std::io::{Read, Write};
 use table::Counts;
 
 // Text is gathered until 65536 bytes are full. No part is longer than that, so a buffer of twice as many holds what stands there and the
-// next part. A cursor of 65536 says that a write failed: then no more is put and no more is written.
-fn drained(to: &mut impl Write, text: &[u8], at: usize) -> usize
-    ensures { result ≤ 65536 }
+// next part. None says that a write failed: then no more is put and no more is written.
+fn drained(to: &mut impl Write, text: &[u8], at: usize) -> Option<usize>
+    ensures { IfSome result (λ end. end ≤ 65536) }
 {
     if at < 65536 {
-        return at;
+        return Some(at);
     }
     if prints::send(to, text, at) {
-        return 0;
+        return Some(0);
     }
-    65536
+    None
 }
 
 fn print_box(
@@ -37,17 +35,14 @@ fn print_box(
     clauses: &mut [i32],
     text: &mut [u8],
     at: usize,
-) -> usize
+) -> Option<usize>
     requires { Accepted words.now
         × (n ≡ box_count words.now)
         × In 1 (box_count words.now) b
         × (1024 ≤ length clauses.old)
         × (at ≤ 65536) }
-    ensures { result ≤ 65536 }
+    ensures { IfSome result (λ end. end ≤ 65536) }
 {
-    if at == 65536 {
-        return at;
-    }
     let end = wcnf_parts::put_box(words, n, part, b, top, clauses, text, at);
     drained(to, text, end)
 }
@@ -61,17 +56,15 @@ fn print_boxes(
     clauses: &mut [i32],
     text: &mut [u8],
     from: usize,
-) -> usize
+) -> Option<usize>
     requires { Accepted words.now × (n ≡ box_count words.now) × (1024 ≤ length clauses.old) × (from ≤ 65536) }
-    ensures { result ≤ 65536 }
+    ensures { IfSome result (λ end. end ≤ 65536) }
 {
     let mut at = from;
-    let mut b = 1;
-    while b <= n {
-        at = print_box(to, words, n, part, b, top, clauses, text, at);
-        b += 1;
+    for b in 1..=n {
+        at = print_box(to, words, n, part, b, top, clauses, text, at)?;
     }
-    at
+    Some(at)
 }
 
 fn print_pair(
@@ -85,18 +78,15 @@ fn print_pair(
     clauses: &mut [i32],
     text: &mut [u8],
     at: usize,
-) -> usize
+) -> Option<usize>
     requires { Accepted words.now × PairStands words.now pair
         × (1 ≤ switch) × (switch < 2 ^ 31)
         × (1024 ≤ length first.old)
         × (1024 ≤ length second.old)
         × (1024 ≤ length clauses.old)
         × (at ≤ 65536) }
-    ensures { result ≤ 65536 }
+    ensures { IfSome result (λ end. end ≤ 65536) }
 {
-    if at == 65536 {
-        return at;
-    }
     let end = wcnf_parts::put_pair(words, side, switch, pair, first, second, clauses, text, at);
     drained(to, text, end)
 }
@@ -112,33 +102,31 @@ fn print_pairs(
     clauses: &mut [i32],
     text: &mut [u8],
     from: usize,
-) -> usize
+) -> Option<usize>
     requires { Counted words.now counts
         × (1024 ≤ length first.old)
         × (1024 ≤ length second.old)
         × (1024 ≤ length clauses.old)
         × (from ≤ 65536) }
-    ensures { result ≤ 65536 }
+    ensures { IfSome result (λ end. end ≤ 65536) }
 {
     let p = counts.pairs;
     let n = lists::word(words, 0);
     let mut switch = numbers::switch_base(words, n, part);
     let mut end = from;
     let mut at = counts.boxes + 2;
-    let mut k = 0;
-    while k < p {
+    for _ in 0..p {
         switch += 1;
         end = print_pair(
             to, words, side, switch, at, first, second, clauses, text, end,
-        );
+        )?;
         at = totals::next_pair(words, at);
-        k += 1;
     }
-    end
+    Some(end)
 }
 
-// The header, the boxes and the pairs of a checked table.
-fn print_all(to: &mut impl Write, words: &[u32], counts: Counts, e: Encoding)
+// The header, the boxes and the pairs of a checked table. None says that a write failed.
+fn print_all(to: &mut impl Write, words: &[u32], counts: Counts, e: Encoding) -> Option<()>
     requires { Counted words.now counts }
 {
     let part = e.hard;
@@ -157,7 +145,7 @@ fn print_all(to: &mut impl Write, words: &[u32], counts: Counts, e: Encoding)
         needed.clauses as u64,
         top,
     );
-    let boxes = print_boxes(to, words, n, part, top, &mut clauses, &mut text, head);
+    let boxes = print_boxes(to, words, n, part, top, &mut clauses, &mut text, head)?;
     let end = print_pairs(
         to,
         words,
@@ -169,36 +157,32 @@ fn print_all(to: &mut impl Write, words: &[u32], counts: Counts, e: Encoding)
         &mut clauses,
         &mut text,
         boxes,
-    );
-    if end < 65536 {
-        prints::send(to, &text, end);
-    }
-}
-
-fn print_words(to: &mut impl Write, words: &[u32], hard: u32, side: u32) {
-    match asked::ask(words, hard, side) {
-        Asked::Refused(f) => prints::refuse(to, f),
-        Asked::Ready(e, counts) => print_all(to, words, counts, e),
-    }
+    )?;
+    prints::send(to, &text, end);
+    Some(())
 }
 
 // A table has at most 2 words, 64 sizes and 256 pairs of 19 words.
-fn judge(to: &mut impl Write, sheet: &[u8]) {
+fn judge(to: &mut impl Write, sheet: &[u8]) -> Result<(), Refusal> {
     let mut table = [0u32; 4930];
-    match sheet_in::read_sheet(sheet, &mut table) {
-        ReadSheet::Refused(f) => prints::refuse(to, f),
-        ReadSheet::Read(hard, side, n) => print_words(to, &table[..n], hard, side),
-    }
+    let read = sheet_in::read_sheet(sheet, &mut table)?;
+    let words = &table[..read.words];
+    let (e, counts) = asked::ask(words, read.hard, read.side)?;
+    print_all(to, words, counts, e);
+    Ok(())
 }
 
-// One byte more than a sheet may have tells a longer input.
+// One byte more than an input may have tells a longer one.
+fn answer(input: &mut impl Read, to: &mut impl Write) -> Result<(), Refusal> {
+    let mut text = [0u8; 65537];
+    let n = prints::read_input(input, &mut text)?;
+    judge(to, &text[..n])
+}
+
+// stays beside the other program's, which has the same lines: a function that took `judge` from its caller could promise nothing of what is written
 fn main(rt: HostRuntime) {
     let mut to = rt.stdout();
-    let mut input = [0u8; 65537];
-    let got = prints::read_full(&mut rt.stdin(), &mut input);
-    if got > 65536 {
-        prints::refuse(&mut to, Refusal::Room(0));
-        return;
+    if let Err(f) = answer(&mut rt.stdin(), &mut to) {
+        prints::refuse(&mut to, f);
     }
-    judge(&mut to, &input[..got]);
 }

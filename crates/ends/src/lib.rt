@@ -19,6 +19,7 @@ pub struct Seen {
 }
 
 // Whether value `j` of the box and value `i` of the other are allowed together.
+#[tactic(auto, using(crate::proofs::Ends::sizes_seen, crate::proofs::Ends::mine_few))]
 pub fn goes(words: &[u32], seen: Seen, j: u32, i: u32) -> bool
     requires { SeenWell words.now seen × In 1 seen.mine j × In 1 seen.theirs i }
     ensures { result ≡ (end_of words.now seen).ok j i }
@@ -32,18 +33,14 @@ pub fn goes(words: &[u32], seen: Seen, j: u32, i: u32) -> bool
 }
 
 // How many values of the other box support value `j`.
+#[tactic(auto, using(crate::proofs::Ends::supporters_none, crate::proofs::Ends::theirs_few))]
 pub fn supporting(words: &[u32], seen: Seen, j: u32) -> u32
     requires { SeenWell words.now seen × In 1 seen.mine j }
     ensures { result ≡ length (supports (end_of words.now seen) j) }
 {
-    let theirs = seen.theirs;
     let mut sum = 0;
-    let mut i = 1;
-    while i <= theirs {
-        if goes(words, seen, j, i) {
-            sum += 1;
-        }
-        i += 1;
+    for i in 1..seen.theirs + 1 {
+        sum += u32::from(goes(words, seen, j, i));
     }
     sum
 }

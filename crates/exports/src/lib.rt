@@ -16,14 +16,6 @@ ghost use Rattle.codes.specs.Codes.{Told};
 ghost use Rattle.exports.specs.Said.{check_says, cost_says, lengths_say, scratch_says, encode_judged, decode_says, make_says, Encodes};
 ghost use Rattle.exports.specs.Said.{read_sheet_says, write_sheet_says, read_list_says, wcnf_judged, WritesText};
 
-use decoder::{Decoded, Made};
-use encoder::Encoded;
-use list_in::ReadList;
-use measure::{Measured, Needed};
-use plan::Costed;
-use sheet_in::ReadSheet;
-use table::Checked;
-
 // The table's two counts.
 #[unsafe(no_mangle)]
 pub extern "C" fn wickcollar_check(words: &[u32], boxes: &mut usize, pairs: &mut usize) -> u64
@@ -31,8 +23,8 @@ pub extern "C" fn wickcollar_check(words: &[u32], boxes: &mut usize, pairs: &mut
         (boxes.old ∷ pairs.old ∷ []) (boxes.new ∷ pairs.new ∷ []) }
 {
     match table_check::check(words) {
-        Checked::Refused(f) => codes::code(f),
-        Checked::Accepted(counts) => {
+        Err(f) => codes::code(f),
+        Ok(counts) => {
             *boxes = counts.boxes;
             *pairs = counts.pairs;
             0
@@ -46,8 +38,8 @@ pub extern "C" fn wickcollar_cost(words: &[u32], plan: &[u32], cost: &mut u64) -
     ensures { Told (cost_says words.now plan.now) result (cost.old ∷ []) (cost.new ∷ []) }
 {
     match plan::cost(words, plan) {
-        Costed::Refused(f) => codes::code(f),
-        Costed::Cost(sum) => {
+        Err(f) => codes::code(f),
+        Ok(sum) => {
             *cost = sum;
             0
         }
@@ -71,8 +63,8 @@ pub extern "C" fn wickcollar_lengths(
         (variables.new ∷ clauses.new ∷ literals.new ∷ entries.new ∷ top.new ∷ []) }
 {
     match measure::exact_lengths(words, hard, side) {
-        Measured::Refused(f) => codes::code(f),
-        Measured::Lengths(lengths) => {
+        Err(f) => codes::code(f),
+        Ok(lengths) => {
             *variables = lengths.variables;
             *clauses = lengths.clauses;
             *literals = lengths.literals;
@@ -96,8 +88,8 @@ pub extern "C" fn wickcollar_scratch_lengths(
         (first.old ∷ second.old ∷ []) (first.new ∷ second.new ∷ []) }
 {
     match measure::scratch_lengths(words, hard, side) {
-        Needed::Refused(f) => codes::code(f),
-        Needed::Scratch(scratch) => {
+        Err(f) => codes::code(f),
+        Ok(scratch) => {
             *first = scratch.first;
             *second = scratch.second;
             0
@@ -123,8 +115,8 @@ pub extern "C" fn wickcollar_encode(
         result first.new second.new literals.new weights.new (entries.new ∷ clauses.new ∷ []) }
 {
     match encoder::encode(words, hard, side, first, second, literals, weights) {
-        Encoded::Refused(f) => codes::code(f),
-        Encoded::Written(written) => {
+        Err(f) => codes::code(f),
+        Ok(written) => {
             *entries = written.literals;
             *clauses = written.weights;
             0
@@ -147,8 +139,8 @@ pub extern "C" fn wickcollar_decode(
         × (plan.new ≡ plan_after (picked_of hard side) (judged words.now) list.now plan.old) }
 {
     match decoder::decode(words, hard, side, list, plan) {
-        Decoded::Refused(f) => codes::code(f),
-        Decoded::Cost(weight) => {
+        Err(f) => codes::code(f),
+        Ok(weight) => {
             *cost = weight;
             0
         }
@@ -170,8 +162,8 @@ pub extern "C" fn wickcollar_make_list(
         × (list.new ≡ list_after (picked_of hard side) (judged words.now) plan.now list.old) }
 {
     match maker::make_list(words, hard, side, plan, list) {
-        Made::Refused(f) => codes::code(f),
-        Made::Written(count) => {
+        Err(f) => codes::code(f),
+        Ok(count) => {
             *entries = count;
             0
         }
@@ -192,11 +184,11 @@ pub extern "C" fn wickcollar_read_sheet(
         × (table.new ≡ table_left (parsed text.now) table.old) }
 {
     match sheet_in::read_sheet(text, table) {
-        ReadSheet::Refused(f) => codes::code(f),
-        ReadSheet::Read(h, s, count) => {
-            *hard = h;
-            *side = s;
-            *words = count;
+        Err(f) => codes::code(f),
+        Ok(sheet) => {
+            *hard = sheet.hard;
+            *side = sheet.side;
+            *words = sheet.words;
             0
         }
     }
@@ -216,8 +208,8 @@ pub extern "C" fn wickcollar_write_sheet(
         × (text.new ≡ text_left (sheet_of words.now hard side) text.old) }
 {
     match sheet_out::write_sheet(words, hard, side, text) {
-        sheet_out::Written::Refused(f) => codes::code(f),
-        sheet_out::Written::Text(length) => {
+        Err(f) => codes::code(f),
+        Ok(length) => {
             *bytes = length;
             0
         }
@@ -242,12 +234,12 @@ pub extern "C" fn wickcollar_read_list(
         × (list.new ≡ listed.list_after (over text.now) table.old list.old) }
 {
     match list_in::read_list(text, table, list) {
-        ReadList::Refused(f) => codes::code(f),
-        ReadList::Read(its_hard, its_side, its_words, its_entries) => {
-            *hard = its_hard;
-            *side = its_side;
-            *words = its_words;
-            *entries = its_entries;
+        Err(f) => codes::code(f),
+        Ok(read) => {
+            *hard = read.hard;
+            *side = read.side;
+            *words = read.words;
+            *entries = read.entries;
             0
         }
     }
@@ -269,8 +261,8 @@ pub extern "C" fn wickcollar_write_wcnf(
         result first.new second.new text.new (bytes.new ∷ []) }
 {
     match wcnf_out::write_wcnf(words, hard, side, first, second, text) {
-        wcnf_out::Written::Refused(f) => codes::code(f),
-        wcnf_out::Written::Text(count) => {
+        Err(f) => codes::code(f),
+        Ok(count) => {
             *bytes = count;
             0
         }

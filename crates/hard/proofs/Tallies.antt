@@ -1,6 +1,7 @@
 -- How many clauses and literals a box has, by its number of values alone.
 use mathlib.Core.Path.{◌≡◌, refl, sym, ◌∙◌}
 use Prim.Native.Nat.{ℕ, zero, suc, ◌+◌, ◌-◌, ◌*◌, ◌/◌, ◌≤◌}
+use native.Mathlib.Nat.{mul-le-mul}
 use native.Mathlib.Omega.{arith}
 use Rattle.clause.specs.declared.Hard.{Hard}
 use Rattle.clause.specs.declared.Hard.TheVariants.{Standard, Regular}
@@ -30,6 +31,13 @@ tally_any Regular v s (suc (suc k)) =
     (regular_literals (value_from v) (step_from s) k ∙ sym (regular_literals (value_from 0) (step_from 0) k))
 
 -- ---- in closed form
+
+-- with at most 16 values the products fit
+pub square_few : (m : ℕ) → m ≤ 16 → m * m ≤ 256
+square_few m h = omega (arith, mul-le-mul h h)
+
+pub pairs_few : (m : ℕ) → m ≤ 16 → m * (m - 1) ≤ 256
+pairs_few m h = let l : m - 1 ≤ 16 = omega arith in omega (arith, mul-le-mul h l)
 
 pub standard_tally_lem : (m : ℕ) → 1 ≤ m → ◌≡◌ {A = Tally} (record { clauses = 1 + m * (m - 1) / 2; literals = m * m }) (box_tally_lem Standard m)
 unfolding box_with

@@ -17,6 +17,7 @@ pub struct Tally {
     pub literals: usize,
 }
 
+#[tactic(auto, using(crate::proofs::Tallies::standard_tally_lem, crate::proofs::Tallies::square_few, crate::proofs::Tallies::pairs_few))]
 fn standard_tally(m: usize) -> Tally
     requires { (1 ≤ m) × (m ≤ 16) }
     ensures { result ≡ box_tally_lem Standard m }
@@ -26,6 +27,7 @@ fn standard_tally(m: usize) -> Tally
     Tally { clauses, literals }
 }
 
+#[tactic(auto, using(crate::proofs::Tallies::single_tally, crate::proofs::Tallies::regular_tally_lem))]
 fn regular_tally(m: usize) -> Tally
     requires { (1 ≤ m) × (m ≤ 16) }
     ensures { result ≡ box_tally_lem Regular m }
@@ -53,6 +55,7 @@ pub fn box_tally(hard: Hard, m: u32) -> Tally
 }
 
 // The hard clauses of a box with m values: v variables stand before its values, s before its thresholds.
+#[tactic(auto, unfolding(clause::specs::Hard::box_with))]
 pub fn put_box(hard: Hard, v: u32, s: u32, m: u32, out: &mut [i32], at: usize) -> usize
     requires { (1 ≤ m) × (m ≤ 16) × (v < 2 ^ 20) × (s < 2 ^ 20) × (at + length (entries_of (box_with hard v s m)) < 2 ^ 64) }
     ensures { Wrote out.old at (entries_of (box_with hard v s m)) result out.new }

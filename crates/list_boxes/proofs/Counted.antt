@@ -1,9 +1,9 @@
 -- A box's hard clauses are true exactly if one of its variables is true and, on the regular part, its thresholds say the value found: both can be counted.
 use mathlib.Core.Path.{◌≡◌, refl}
-use mathlib.Core.Logic.{◌↔◌, ◌≢◌}
+use mathlib.Core.Logic.{◌↔◌}
 use Prim.Native.Nat.{ℕ, zero, suc, ◌+◌, ◌≤◌, ◌<◌, pred}
 use native.Mathlib.Omega.{arith}
-use mathlib.Core.Bool.{Bool, true, false, beq}
+use mathlib.Core.Bool.{Bool, true, beq}
 use mathlib.Core.List.{List}
 use lib.Dec.{eqb, leb}
 use borrow.Author.Tests.{eq-eqb, ne_eqb, eqb-true}
@@ -64,14 +64,3 @@ box_counts h ν v s m = same_test (all_true ν (box_with h v s m)) (counted_ok_l
 pub box_counted : (h : Hard) (t : Table) (l : List ℕ) (b : ℕ) → box_ok_lem h t l b ≡ counted_ok_lem h (reads l) (value_base_lem t b) (step_base_lem t b) (size t b)
 unfolding box_ok_lem box_clauses
 box_counted h t l b = box_counts h (reads l) (value_base_lem t b) (step_base_lem t b) (size t b)
-
--- ---- exit by exit
-
-module _ (h : Hard) (ν : Reading) (v s m : ℕ) where
-  pub count_wrong : true_count_lem ν (value_from v) m ≢ 1 → counted_ok_lem h ν v s m ≡ false
-  unfolding counted_ok_lem
-  count_wrong d = rw (ne_eqb (true_count_lem ν (value_from v) m) 1 d)
-
-  pub count_one : true_count_lem ν (value_from v) m ≡ 1 → counted_ok_lem h ν v s m ≡ steps_say_lem h ν s m (held ν (value_from v) 1 m)
-  unfolding counted_ok_lem
-  count_one e = rw (eq-eqb (true_count_lem ν (value_from v) m) 1 e)

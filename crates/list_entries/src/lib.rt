@@ -9,20 +9,16 @@ ghost use Rattle.list_entries.specs.Entries.{entry_of_lem, entries_of};
 fn entry_of(c: u8) -> u8
     ensures { result ≡ entry_of_lem c }
 {
-    if c == 49 {
-        return 1;
-    }
-    0
+    u8::from(c == b'1')
 }
 
 // The entries of all characters, from the start.
+#[tactic(auto, using(lists::proofs::Stores::copied_none, crate::proofs::Entries::entries_all))]
 pub fn put_list(list: &mut [u8], characters: &[u8])
     ensures { list.new ≡ sets list.old 0 (entries_of characters.now) }
 {
-    let mut i = 0;
-    while i < characters.len() {
-        let entry = entry_of(characters[i]);
-        stores::put_byte(list, i, entry);
-        i += 1;
+    let mut at = 0;
+    for c in characters {
+        at = stores::put(list, at, entry_of(*c));
     }
 }

@@ -10,12 +10,12 @@ use Rattle.sheet_in.specs.Parsed.{sheet, parsed}
 use Rattle.list_scan.specs.declared.ListLine.TheVariants.{Entries, Bad, More}
 use Rattle.list_scan.specs.ListLines.{line_found, line_start_lem}
 use Rattle.list_entries.specs.Entries.{entries_of}
-use Rattle.list_store.specs.declared.ReadList.{ReadList}
+use Rattle.std.specs.Prelude.{Err}
 use Rattle.list_store.specs.Listed.{Listed, listed, faulty}
 use Rattle.list_store.specs.Answers.{Answered}
 use Rattle.list_in.specs.Listed.{on_line, on_top, split_at}
 
-pub at_line : (x : Listed) (table list : List ℕ) {l n : ℕ} → x ≡ faulty l → n ≡ l → Answered x table list (ReadList.Refused (Refusal.Line n)) table list
+pub at_line : (x : Listed) (table list : List ℕ) {l n : ℕ} → x ≡ faulty l → n ≡ l → Answered x table list (Err (Refusal.Line n)) table list
 at_line x table list e z = rw (e, z) (record { answer = refl; words = refl; entries = refl })
 
 -- ---- what stands below a sheet at index i of s

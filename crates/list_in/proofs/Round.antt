@@ -33,8 +33,9 @@ use Rattle.list_entries.specs.Entries.{entries_of}
 use Rattle.list_scan.proofs.ListLines.{entries_were}
 use Rattle.list_scan.proofs.Written.{Bits, written_found, written_taken, entries_bits, found_written}
 use Rattle.list_store.specs.declared.ReadList.{ReadList}
+use Rattle.refusal.specs.Refusals.{result_of}
 use Rattle.list_store.specs.Listed.{Listed, listed, faulty}
-use Rattle.list_store.specs.Answers.{wanted, fault, read_with, read_of, table_after, list_after}
+use Rattle.list_store.specs.Answers.{wanted, fault, list_given, read_of, table_after, list_after}
 use Rattle.list_in.specs.Listed.{on_line, on_top, first_fault_lem, split_at, over}
 use Rattle.list_in.proofs.LineCount.{sheet_ends}
 
@@ -145,7 +146,7 @@ module _ (h d : ℕ) (ws l table list : List ℕ) where
 -- The sheet of a sound table with the line of a list of its length, read into buffers with room: the choices, the table's words, the list.
 pub list_trip : (h : Hard) (d : Side) (t : Table) (l table list : List ℕ) → Sound t → Bits l → length l ≡ variables t h d
     → length (words_of t) ≤ length table → length l ≤ length list → (x : Listed) → x ≡ over (sheet_text h d t ++ list_text l)
-    → (read_of x (length table) (length list) ≡ ReadList.Read (hard_number h) (side_number d) (length (words_of t)) (length l))
+    → (read_of x (length table) (length list) ≡ list_given (hard_number h) (side_number d) (length (words_of t)) (length l))
     × (table_after x table list ≡ sets table 0 (words_of t))
     × (list_after x table list ≡ sets list 0 l)
 list_trip h d t l table list S B z roomy long x e =
@@ -170,28 +171,36 @@ unfolding fault
 due_length h d ws l tableRoom listRoom e =
     eqb-true (length l) (wanted h d ws) (unless_none (eqb (length l) (wanted h d ws)) _ (then_none (unless (eqb (length l) (wanted h d ws)) _) _ e).0)
 
-pub read_only : (s : List ℕ) (tableRoom listRoom : ℕ) {h d n m : ℕ} → read_of (over s) tableRoom listRoom ≡ ReadList.Read h d n m → ReadWas s h d n m
+-- what was given, taken apart
+same_listed : {h h' d d' n n' m m' : ℕ} → list_given h d n m ≡ list_given h' d' n' m' → (h ≡ h') × (d ≡ d') × (n ≡ n') × (m ≡ m')
+same_listed {h} {h'} {d} {d'} {n} {n'} {m} {m'} e =
+    let same : ◌≡◌ {A = ReadList} (record { hard = h; side = d; words = n; entries = m }) (record { hard = h'; side = d'; words = n'; entries = m' }) = cc in (
+      ap (λ (r : ReadList). r.hard) same,
+      ap (λ (r : ReadList). r.side) same,
+      ap (λ (r : ReadList). r.words) same,
+      ap (λ (r : ReadList). r.entries) same,
+    )
+
+pub read_only : (s : List ℕ) (tableRoom listRoom : ℕ) {h d n m : ℕ} → read_of (over s) tableRoom listRoom ≡ list_given h d n m → ReadWas s h d n m
 read_only s tableRoom listRoom {h} {d} {n} {m} e = by (over s) refl e
   where
     known : (h' d' : ℕ) (ws l : List ℕ) (o : Option Refusal) → over s ≡ listed h' d' ws l → fault h' d' ws l tableRoom listRoom ≡ o
-        → read_with o h' d' (length ws) (length l) ≡ ReadList.Read h d n m → ReadWas s h d n m
+        → result_of o (record { hard = h'; side = d'; words = length ws; entries = length l }) ≡ list_given h d n m → ReadWas s h d n m
     known h' d' ws l (some f) p q e = absurd (let z : ◌≡◌ {A = ℕ} 0 1 = cc in omega arith)
     known h' d' ws l none p q e =
-        let x : h' ≡ h = cc in
-        let y : d' ≡ d = cc in
-        let long : length l ≡ m = cc in
+        let (x, y, count, long) = same_listed e in
         let W = read_was_written s h d ws l (p ∙ ap₂ (λ (a b : ℕ). listed a b ws l) x y) in
         let due : length l ≡ wanted h d ws = due_length h' d' ws l tableRoom listRoom q ∙ same_wanted h' h d' d ws ws x y refl in
         record {
           words = ws;
           list = l;
           was = W;
-          count = cc;
+          count = count;
           long = long;
           due = sym long ∙ due ∙ same_wanted h _ d _ ws _ W.hard_number_lem W.side_number_lem W.words
               ∙ wanted_variables W.hard W.side W.table W.sound;
         }
 
-    by : (x : Listed) → over s ≡ x → read_of x tableRoom listRoom ≡ ReadList.Read h d n m → ReadWas s h d n m
+    by : (x : Listed) → over s ≡ x → read_of x tableRoom listRoom ≡ list_given h d n m → ReadWas s h d n m
     by (faulty l) p e = absurd (let z : ◌≡◌ {A = ℕ} 0 1 = cc in omega arith)
     by (listed h' d' ws l) p e = known h' d' ws l (fault h' d' ws l tableRoom listRoom) p refl e

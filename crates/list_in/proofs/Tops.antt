@@ -17,8 +17,9 @@ use Rattle.table.specs.Words.{accepted, Accepted}
 use Rattle.table.proofs.Words.{accepted_fine}
 use Rattle.table.proofs.Round.{sound_accepted}
 use Rattle.sheet.proofs.Sheets.{size_most}
-use Rattle.sheet_in.specs.declared.ReadSheet.{ReadSheet}
-use Rattle.sheet_in.specs.Parsed.{Parsed, sheet, faulty, parsed, read_of, table_left}
+use Rattle.std.specs.Prelude.{Err}
+use Rattle.sheet_in.specs.Parsed.{Parsed, sheet, faulty, parsed, sheet_given, read_of, table_left}
+use Rattle.sheet_in.proofs.Was.{same_given}
 use Rattle.sheet_exact.proofs.Round.{read_written}
 use Rattle.list_in.specs.Listed.{first_fault_lem}
 
@@ -56,10 +57,10 @@ pub record Refuses (s : List ℕ) (f : Refusal) : Type 0 where
   pub is : parsed s ≡ faulty line
   pub names : f ≡ Line line
 
-pub refuses : (s : List ℕ) {f : Refusal} → ReadSheet.Refused f ≡ read_of (parsed s) 4930 → Refuses s f
+pub refuses : (s : List ℕ) {f : Refusal} → Err f ≡ read_of (parsed s) 4930 → Refuses s f
 refuses s {f} e = by (parsed s) refl e
   where
-    by : (p : Parsed) → parsed s ≡ p → ReadSheet.Refused f ≡ read_of p 4930 → Refuses s f
+    by : (p : Parsed) → parsed s ≡ p → Err f ≡ read_of p 4930 → Refuses s f
     by (faulty l) q e = record { line = l; is = q; names = cc }
     by (sheet h d ws) q e =
         absurd (let z : ◌≡◌ {A = ℕ} 0 1 = cc (rw (le-leb (length ws) 4930 (sheet_table s h d ws q).most) at e) in omega arith)
@@ -71,19 +72,17 @@ pub record Reads (s : List ℕ) (h d n : ℕ) (out : List ℕ) : Type 0 where
   pub count : length (take n out) ≡ n
   pub most : n ≤ 4930
 
-pub reads : (s old : List ℕ) {h d n : ℕ} {out : List ℕ} → length old ≡ 4930 → ReadSheet.Read h d n ≡ read_of (parsed s) 4930 → out ≡ table_left (parsed s) old
+pub reads : (s old : List ℕ) {h d n : ℕ} {out : List ℕ} → length old ≡ 4930 → sheet_given h d n ≡ read_of (parsed s) 4930 → out ≡ table_left (parsed s) old
     → Reads s h d n out
 reads s old {h} {d} {n} {out} long e f = by (parsed s) refl e f
   where
-    by : (p : Parsed) → parsed s ≡ p → ReadSheet.Read h d n ≡ read_of p 4930 → out ≡ table_left p old → Reads s h d n out
+    by : (p : Parsed) → parsed s ≡ p → sheet_given h d n ≡ read_of p 4930 → out ≡ table_left p old → Reads s h d n out
     by (faulty l) q e f = absurd (let z : ◌≡◌ {A = ℕ} 0 1 = cc in omega arith)
     by (sheet h' d' ws) q e f =
         let T = sheet_table s h' d' ws q in
         let fit : leb (length ws) 4930 ≡ true = le-leb (length ws) 4930 T.most in
-        let e' : ReadSheet.Read h d n ≡ ReadSheet.Read h' d' (length ws) = rw fit at e in
-        let x : h' ≡ h = cc in
-        let y : d' ≡ d = cc in
-        let z : length ws ≡ n = cc in
+        let e' : sheet_given h d n ≡ sheet_given h' d' (length ws) = rw fit at e in
+        let (x, y, z) = same_given (sym e') in
         let kept : take n out ≡ ws = ap (take n) (rw (long, fit) at f) ∙ sets_begins ws old n z (omega (arith, T.most)) in
         record {
           is = rw (kept, ← x, ← y) q;

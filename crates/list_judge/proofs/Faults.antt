@@ -9,7 +9,7 @@ use Prim.Native.Nat.{ℕ}
 use native.Mathlib.Omega.{arith}
 use lib.ListN.{length, get_or}
 use lib.Dec.{leb, eqb}
-use borrow.Author.Tests.{leb-true, le-leb, eq-eqb, ne_eqb}
+use borrow.Author.Tests.{leb-true, le-leb, ne_eqb}
 use Rattle.lists.specs.Firsts.{◌then◌, unless}
 use Rattle.lists.proofs.Search.{unless_exact, then_exact, clear_exact}
 use Rattle.refusal.specs.declared.Refusal.TheVariants.{Length, Entry, Broken}
@@ -48,11 +48,6 @@ module _ (h : Hard) (s : Side) (t : Table) (l : List ℕ) where
   pub list_length : length l ≢ variables t h s → list_fault h s t l ≡ some (Length (variables t h s))
   unfolding list_fault
   list_length d = rw (ne_eqb (length l) (variables t h s) d)
-
-  pub list_rest : length l ≡ variables t h s
-      → list_fault h s t l ≡ (entries_fault l then boxes_fault h t l)
-  unfolding list_fault
-  list_rest e = rw (eq-eqb (length l) (variables t h s) e)
 
   -- a list with which nothing is wrong breaks no box
   pub fine_boxes : list_fault h s t l ≡ none → BoxesOk h t l

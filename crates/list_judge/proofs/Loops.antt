@@ -1,11 +1,13 @@
 -- What the two loops meet first.
 use mathlib.Core.Path.{◌≡◌}
-use mathlib.Core.Bool.{false}
-use mathlib.Core.Option.{some}
+use mathlib.Core.Bool.{true, false}
+use mathlib.Core.Option.{none, some}
 use mathlib.Core.List.{List}
-use Prim.Native.Nat.{ℕ, ◌<◌}
+use Prim.Native.Nat.{ℕ, ◌+◌, ◌-◌, ◌≤◌, ◌<◌}
 use lib.ListN.{get_or}
-use borrow.Author.Tests.{lt-leb}
+use borrow.Author.Tests.{lt-leb, le-leb}
+use Rattle.lists.specs.Firsts.{first_of}
+use Rattle.lists.proofs.Firsts.{first_found}
 use Rattle.refusal.specs.declared.Refusal.TheVariants.{Entry, Broken}
 use Rattle.table.specs.Table.{Table}
 use Rattle.clause.specs.declared.Hard.{Hard}
@@ -16,6 +18,16 @@ pub entry_wrong : (l : List ℕ) (i : ℕ) → 1 < get_or l i 0 → entry_fault 
 unfolding entry_fault
 entry_wrong l i h = rw (lt-leb (get_or l i 0) 1 h)
 
-pub box_wrong : (h : Hard) (t : Table) (l : List ℕ) (b : ℕ) → box_ok_lem h t l b ≡ false → box_fault h t l b ≡ some (Broken b)
+pub entry_fine : (l : List ℕ) (i : ℕ) → get_or l i 0 ≤ 1 → entry_fault l i ≡ none
+unfolding entry_fault
+entry_fine l i h = rw (le-leb (get_or l i 0) 1 h)
+
+-- of the boxes from b to n - 1
+pub box_found : (h : Hard) (t : Table) (l : List ℕ) (n b : ℕ) → b < n → box_ok_lem h t l b ≡ false
+    → first_of (box_fault h t l) (λ k. k + 1) (n - b) b ≡ some (Broken b)
 unfolding box_fault
-box_wrong h t l b e = rw e
+box_found h t l n b u e = first_found (box_fault h t l) (λ k. k + 1) n b b u (rw e)
+
+pub box_fine : (h : Hard) (t : Table) (l : List ℕ) (b : ℕ) → box_ok_lem h t l b ≡ true → box_fault h t l b ≡ none
+unfolding box_fault
+box_fine h t l b e = rw e

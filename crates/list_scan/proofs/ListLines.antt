@@ -56,10 +56,13 @@ unfolding line_start_lem
 start_most l [] = omega arith
 start_most l (c ∷ s) = cond_most (leb l 1) (omega arith) (omega (arith, start_most (cond (eqb c 10) (l - 1) l) s))
 
-pub count_most : (l : List ℕ) → bit_count_lem l ≤ length l
+count_most : (l : List ℕ) → bit_count_lem l ≤ length l
 unfolding bit_count_lem
 count_most [] = omega arith
 count_most (c ∷ l) = cond_most (leb 48 c && leb c 49) (omega (arith, count_most l)) (omega arith)
+
+pub count_ends : (i : ℕ) (s : List ℕ) → bit_count_lem (drop i s) ≤ length s - i
+count_ends i s = omega (arith, count_most (drop i s), length-drop i s)
 
 -- ---- what stands at index i of s, judged
 

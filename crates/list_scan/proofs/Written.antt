@@ -3,7 +3,7 @@ use Prim.Native.Nat.{ℕ, zero, suc, ◌+◌, ◌≤◌}
 use native.Mathlib.Omega.{arith}
 use mathlib.Core.Bool.{true, ◌&&◌}
 use mathlib.Core.Path.{◌≡◌, refl, sym, ap, ap₂, ◌∙◌}
-use mathlib.Core.List.{List, [], ◌∷◌, ◌++◌, map}
+use mathlib.Core.List.{List, [], ◌∷◌, ◌++◌}
 use lib.ListN.{length, length-append, length-drop, take, drop, take-append-drop}
 use lib.Seq.{take-append_seam, drop-append_seam}
 use lib.Dec.{leb, eqb}
@@ -23,19 +23,19 @@ Bits l = Each (λ b. b ≤ 1) l
 -- ---- what is written is found
 
 written_count : (l rest : List ℕ) → Bits l → bit_count_lem (characters_of l ++ (10 ∷ rest)) ≡ length l
-unfolding bit_count_lem characters_of map
+unfolding bit_count_lem characters_of
 written_count [] rest e = refl
 written_count (b ∷ l) rest (h, e) = simp (le-leb 48 (48 + b) (omega arith), le-leb (48 + b) 49 (omega arith)) (ap suc (written_count l rest e))
 
 pub written_entries : (l : List ℕ) → Bits l → entries_of (characters_of l) ≡ l
-unfolding entries_of characters_of map
+unfolding entries_of characters_of
 written_entries [] e = refl
 written_entries (zero ∷ l) (h, e) = ap (λ (k : List ℕ). 0 ∷ k) (written_entries l e)
 written_entries (suc zero ∷ l) (h, e) = ap (λ (k : List ℕ). 1 ∷ k) (written_entries l e)
 written_entries (suc (suc b) ∷ l) (h, e) = absurd (omega arith)
 
 length_characters : (l : List ℕ) → length (characters_of l) ≡ length l
-unfolding characters_of map
+unfolding characters_of
 length_characters [] = refl
 length_characters (b ∷ l) = ap suc (length_characters l)
 
@@ -66,7 +66,7 @@ written_taken l e =
 -- ---- what is found was written
 
 pub entries_bits : (r : List ℕ) → Bits (entries_of r)
-unfolding entries_of map
+unfolding entries_of
 entries_bits [] = tt
 entries_bits (c ∷ r) = (test (eqb c 49) (λ t. rw t (omega arith)) (λ t. rw t (omega arith)), entries_bits r)
 
@@ -74,7 +74,7 @@ back_one : (c : ℕ) → 48 ≤ c → c ≤ 49 → 48 + entry_of_lem c ≡ c
 back_one c l h = test (eqb c 49) (λ t. rw t (sym (eqb-true c 49 t))) (λ t. rw t (omega (arith, eqb-false c 49 t)))
 
 found_characters : (q : List ℕ) → characters_of (entries_of (take (bit_count_lem q) q)) ≡ take (bit_count_lem q) q
-unfolding bit_count_lem characters_of entries_of map
+unfolding bit_count_lem characters_of entries_of
 found_characters [] = refl
 found_characters (c ∷ q) =
     test (leb 48 c && leb c 49)

@@ -7,27 +7,27 @@ ghost use Rattle.list_entries.specs.Entries.{entries_of};
 ghost use Rattle.list_store.specs.Listed.{listed};
 ghost use Rattle.list_store.specs.Answers.{wanted, Answered};
 
-use clause::Picked;
 use refusal::Refusal;
 
-// The hard part's and the side's number, how many words the table has and how many entries the list, or the refusal.
+// A sheet and a list that were read: the hard part's and the side's number, how many words the table has and how many entries the list.
 #[derive(Clone, Copy)]
-pub enum ReadList {
-    Read(u32, u32, usize, usize),
-    Refused(Refusal),
+pub struct ReadList {
+    pub hard: u32,
+    pub side: u32,
+    pub words: usize,
+    pub entries: usize,
 }
 
 // How many entries a list of this table has.
+#[tactic(auto, unfolding(crate::specs::Answers::wanted))]
 fn wanted(words: &[u32], hard: u32, side: u32) -> usize
     requires { Accepted words.now }
     ensures { result ≡ wanted hard side words.now }
 {
-    let Picked::Known(e) = clause::pick(hard, side) else {
+    let Ok(e) = clause::pick(hard, side) else {
         return 0;
     };
-    let part = e.hard;
-    let pair_side = e.side;
-    list_judge::variables(words, part, pair_side)
+    list_judge::variables(words, e.hard, e.side)
 }
 
 // A list of these characters for the table of these words: 10, then 9. Both are stored when nothing is left to judge.
@@ -38,7 +38,7 @@ pub fn store(
     characters: &[u8],
     table: &mut [u32],
     list: &mut [u8],
-) -> ReadList
+) -> Result<ReadList, Refusal>
     requires { Accepted words.now }
     ensures { Answered (listed hard side words.now (entries_of characters.now))
         table.old list.old result table.new list.new }
@@ -47,15 +47,20 @@ pub fn store(
     let m = characters.len();
     let due = wanted(words, hard, side);
     if m != due {
-        return ReadList::Refused(Refusal::Length(due));
+        return Err(Refusal::Length(due));
     }
     if list.len() < m {
-        return ReadList::Refused(Refusal::Room(m));
+        return Err(Refusal::Room(m));
     }
     if table.len() < n {
-        return ReadList::Refused(Refusal::Room(n));
+        return Err(Refusal::Room(n));
     }
-    stores::put_words(table, 0, words);
+    stores::put_all(table, 0, words);
     list_entries::put_list(list, characters);
-    ReadList::Read(hard, side, n, m)
+    Ok(ReadList {
+        hard,
+        side,
+        words: n,
+        entries: m,
+    })
 }

@@ -4,7 +4,7 @@
 
 ghost use Rattle.std.specs.Prelude.{◌≡◌, ◌<◌, length, get_or};
 
-// A word as a length or an index.
+// A word as a length or an index. A function and no `From`: Rust has none from u32 to usize, only the cast.
 pub fn wide(x: u32) -> usize
     ensures { result ≡ x }
 {

@@ -1,6 +1,6 @@
 -- The rows of a made list, and how long they and the list are.
 use mathlib.Core.Path.{◌≡◌, refl, sym, ap, ap₂, ◌∙◌}
-use Prim.Native.Nat.{ℕ, ◌+◌, ◌-◌, pred}
+use Prim.Native.Nat.{ℕ, ◌+◌, ◌-◌, ◌≤◌, pred}
 use native.Mathlib.Nat.{add_assoc}
 use mathlib.Core.List.{List, ◌++◌, flat_map}
 use lib.ListN.{length, get_or, replicate, length-append, length-map, length-replicate, get_or-map}
@@ -8,6 +8,14 @@ use lib.Dec.{eqb, leb}
 use Rattle.lists.specs.Lists.{count, nth}
 use Rattle.lists.proofs.Blocks.{length_count, Long, flat_length}
 use Rattle.table.specs.Table.{Table, size}
+use Rattle.table.specs.Words.{box_count, size_at, table_of, Accepted}
+use Rattle.table.proofs.Words.{accepted_parts}
+use Rattle.table.proofs.Tables.{accepted_box}
+use Rattle.numbers.proofs.Counted.{values_small, thresholds_less}
+use Rattle.maker.specs.declared.Part.{Part}
+use Rattle.maker.specs.declared.Part.TheVariants.{Values, Thresholds}
+use Rattle.maker.specs.Rows.{rows_of}
+use native.Mathlib.Omega.{arith}
 use Rattle.clause.specs.declared.Hard.{Hard}
 use Rattle.clause.specs.declared.Hard.TheVariants.{Standard, Regular}
 use Rattle.clause.specs.declared.Side.{Side}
@@ -58,3 +66,16 @@ module _ (t : Table) (plan : List ℕ) where
       length-append (value_bits t plan) (step_bits h t plan ++ replicate (switches t s) 0)
       ∙ ap₂ ◌+◌ values_long (length-append (step_bits h t plan) (replicate (switches t s) 0) ∙ ap₂ ◌+◌ (steps_long h) (length-replicate (switches t s) 0))
       ∙ sym (add_assoc (values t) (thresholds t h) (switches t s))
+
+-- ---- what an accepted table allows
+
+module _ (ws : List ℕ) (A : Accepted ws) where
+  pub rows_few : (p : Part) (plan : List ℕ) → length (rows_of p (table_of ws) plan) ≤ 1024
+  rows_few Values plan = omega (arith, values_long (table_of ws) plan, values_small ws A)
+  rows_few Thresholds plan = omega (arith, steps_long (table_of ws) plan Regular, thresholds_less ws A, values_small ws A)
+
+  pub boxes_few : box_count ws ≤ 64
+  boxes_few = (accepted_parts ws A).boxes.range.1
+
+  pub size_few : (b : ℕ) → 1 ≤ b → b ≤ box_count ws → size_at ws b ≤ 16
+  size_few b l h = (accepted_box ws b A (l, h)).values.1

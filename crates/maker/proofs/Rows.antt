@@ -1,24 +1,20 @@
--- The rows of a made list as the loops go through them, entry by entry and box by box; and the maker's answers, exit by exit.
-use mathlib.Core.Path.{◌≡◌, ap}
-use mathlib.Core.Option.{none, some}
+-- The rows of a made list as the loops go through them, entry by entry and box by box, and the whole list.
+use mathlib.Core.Path.{◌≡◌, sym, ap, ap₂, ◌∙◌}
 use mathlib.Core.List.{List, [], ◌∷◌, ◌++◌, map, flat_map}
-use Prim.Native.Nat.{ℕ, suc, ◌+◌, ◌-◌, ◌≤◌, ◌<◌, pred}
+use Prim.Native.Nat.{ℕ, ◌+◌, ◌-◌, ◌≤◌, ◌<◌, pred}
 use native.Mathlib.Omega.{arith}
-use lib.ListN.{length, replicate, length-map}
-use borrow.Author.Tests.{le-leb, lt-leb}
+use lib.ListN.{length, get_or, replicate}
 use Rattle.lists.specs.Lists.{count, nth}
 use Rattle.lists.proofs.Runs.{count_turn, count_end}
-use Rattle.lists.proofs.Blocks.{length_count}
-use Rattle.refusal.specs.declared.Refusal.{Refusal}
-use Rattle.refusal.specs.declared.Refusal.TheVariants.{Room}
+use Rattle.lists.specs.Stores.{Wrote, Owes}
+use Rattle.lists.proofs.Stores.{wrote_append, owes_part}
 use Rattle.table.specs.Table.{Table, boxes, size}
-use Rattle.plan.specs.Plan.{plan_fault}
+use Rattle.table.specs.Words.{box_count, size_at, table_of}
+use Rattle.table.proofs.Tables.{table_size}
 use Rattle.clause.specs.declared.Hard.{Hard}
 use Rattle.clause.specs.declared.Side.{Side}
-use Rattle.clause.specs.declared.Encoding.{Encoding}
-use Rattle.clause.specs.Numbers.{switches, variables}
+use Rattle.clause.specs.Numbers.{switches}
 use Rattle.decoder.specs.Lists.{bit, value_row, step_row, value_bits, step_bits, made}
-use Rattle.decoder.specs.Answers.{make_fault}
 use Rattle.maker.specs.declared.Part.{Part}
 use Rattle.maker.specs.declared.Part.TheVariants.{Values, Thresholds}
 use Rattle.maker.specs.Rows.{first_in, due_in, row_of, rows_of}
@@ -44,11 +40,6 @@ pub first_low : (p : Part) → (1 ≤ first_in p) × (first_in p ≤ 2)
 first_low Values = (omega arith, omega arith)
 first_low Thresholds = (omega arith, omega arith)
 
-pub row_short : (p : Part) (m a : ℕ) → length (row_of p m a) ≤ m
-unfolding value_row step_row
-row_short Values m a = omega (arith, length-map (count 1 m) (λ k. bit (due_in Values k a)), length_count 1 m)
-row_short Thresholds m a = omega (arith, length-map (count 2 (pred m)) (λ k. bit (due_in Thresholds k a)), length_count 2 (pred m))
-
 -- ---- the rows, from box b to box n
 
 module _ (p : Part) (t : Table) (plan : List ℕ) where
@@ -63,35 +54,26 @@ module _ (p : Part) (t : Table) (plan : List ℕ) where
   unfolding flat_map
   rows_end n b h = ap (flat_map (λ c. row_of p (size t c) (nth plan c))) (count_end b n h)
 
+-- a turn: the row of box b, whose size is read in the table and whose value in the plan, is stored
+pub rows_owed : (p : Part) (ws plan : List ℕ) (n b m w a : ℕ) {old all out new : List ℕ} {start at r : ℕ}
+    → Owes old start all out at (rows_from p (table_of ws) plan n b) → Wrote out at (row_of p m a) r new
+    → 1 ≤ b → b ≤ n → n ≡ box_count ws → m ≡ size_at ws b → w ≡ b → a ≡ get_or plan (w - 1) 0
+    → Owes old start all new r (rows_from p (table_of ws) plan n (b + 1))
+rows_owed p ws plan n b m w a o stored l h N e q z =
+    let m-is : size (table_of ws) b ≡ m = table_size ws b l (omega arith) ∙ sym e in
+    let a-is : nth plan b ≡ a = sym (z ∙ ap (λ (k : ℕ). get_or plan (k - 1) 0) q) in
+    owes_part o (rows_turn p (table_of ws) plan n b h ∙ ap₂ (λ (m a : ℕ). row_of p m a ++ rows_from p (table_of ws) plan n (b + 1)) m-is a-is) stored
+
 pub rows_all : (p : Part) (t : Table) (plan : List ℕ) (n : ℕ) → n ≡ boxes t → rows_from p t plan n 1 ≡ rows_of p t plan
 unfolding value_bits step_bits
 rows_all Values t plan n e = let z : n + 1 - 1 ≡ length t.sizes = omega arith in rw z
 rows_all Thresholds t plan n e = let z : n + 1 - 1 ≡ length t.sizes = omega arith in rw z
 
--- ---- zeros
-
-pub zeros_turn : (n i : ℕ) → i < n → replicate {A = ℕ} (n - i) 0 ≡ 0 ∷ replicate (n - (i + 1)) 0
-zeros_turn n i h = let e : n - i ≡ suc (n - (i + 1)) = omega arith in rw e
-
 -- ---- the whole list
 
-pub made_parts : (h : Hard) (s : Side) (t : Table) (plan : List ℕ) (k : ℕ) → k ≡ switches t s
-    → value_bits t plan ++ (step_bits h t plan ++ replicate k 0) ≡ made h s t plan
+-- the values, the thresholds and the zeros, stored one after the other
+pub made_wrote : (hard : Hard) (side : Side) (t : Table) (plan : List ℕ) {old first second new : List ℕ} {k thresholds zeros end : ℕ}
+    → Wrote old 0 (value_bits t plan) thresholds first → Wrote first thresholds (step_bits hard t plan) zeros second
+    → Wrote second zeros (replicate k 0) end new → k ≡ switches t side → Wrote old 0 (made hard side t plan) end new
 unfolding made
-made_parts h s t plan k e = rw e
-
--- ---- the answer
-
-module _ (e : Encoding) (t : Table) (plan : List ℕ) (room : ℕ) where
-  pub answer_wrong : {f : Refusal} → plan_fault t plan ≡ some f → make_fault e t plan room ≡ some f
-  unfolding make_fault
-  answer_wrong w = rw w
-
-  pub answer_short : plan_fault t plan ≡ none → room < variables t e.hard e.side
-      → make_fault e t plan room ≡ some (Room (variables t e.hard e.side))
-  unfolding make_fault
-  answer_short w h = rw (w, lt-leb (variables t e.hard e.side) room h)
-
-  pub answer_fine : plan_fault t plan ≡ none → variables t e.hard e.side ≤ room → make_fault e t plan room ≡ none
-  unfolding make_fault
-  answer_fine w h = rw (w, le-leb (variables t e.hard e.side) room h)
+made_wrote hard side t plan u v w e = wrote_append u (wrote_append v (rw e at w))

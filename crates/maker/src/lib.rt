@@ -1,21 +1,17 @@
 // The list maker: the list of 0 and 1 that a plan is, in any of the ten encodings.
 #![tactic(auto)]
 
-ghost use Rattle.std.specs.Prelude.{◌≡◌, ◌+◌, ◌^◌, ◌≤◌, ◌<◌, length, replicate};
+ghost use Rattle.std.specs.Prelude.{◌≡◌, ◌^◌, ◌≤◌, ◌<◌, length, Ok};
 ghost use Rattle.lists.specs.Stores.{Wrote};
 ghost use Rattle.table.specs.Words.{table_of, judged, Accepted};
 ghost use Rattle.table.specs.Answers.{Counted};
 ghost use Rattle.plan.specs.Plan.{IsPlan};
-ghost use Rattle.clause.specs.declared.Picked.TheVariants.{Known};
 ghost use Rattle.clause.specs.Encodings.{picked_of};
-ghost use Rattle.decoder.specs.Lists.{bit, step_bits, made};
+ghost use Rattle.decoder.specs.Lists.{step_bits, made};
 ghost use Rattle.decoder.specs.Answers.{made_of, list_after};
 ghost use Rattle.maker.specs.Rows.{first_in, due_in, row_of, rows_of};
 
-use asked::Asked;
 use clause::{Encoding, Hard, Side};
-use decoder::Made;
-use plan::Judged;
 use refusal::Refusal;
 use table::Counts;
 
@@ -24,15 +20,6 @@ use table::Counts;
 enum Part {
     Values,
     Thresholds,
-}
-
-fn bit(yes: bool) -> u8
-    ensures { result ≡ bit yes }
-{
-    if yes {
-        return 1;
-    }
-    0
 }
 
 // Whether value or threshold `j` of a box that holds `a` is 1.
@@ -56,38 +43,36 @@ fn first(part: Part) -> u32
 }
 
 // The row of a box of `m` values that holds `a`.
+#[tactic(auto, using(lists::proofs::Stores::owes_all, lists::proofs::Stores::owes_part, lists::proofs::Stores::owes_none, crate::proofs::Rows::row_all, crate::proofs::Rows::row_turn, crate::proofs::Rows::row_end, crate::proofs::Rows::first_low))]
 fn put_row(list: &mut [u8], from: usize, part: Part, m: u32, a: u32) -> usize
     requires { (from < 2 ^ 32) × (m ≤ 16) }
     ensures { Wrote list.old from (row_of part m a) result list.new }
 {
     let mut at = from;
-    let mut j = first(part);
-    while j <= m {
-        let v = bit(due(part, j, a));
-        at = stores::put_byte(list, at, v);
-        j += 1;
+    for j in first(part)..=m {
+        at = stores::put(list, at, u8::from(due(part, j, a)));
     }
     at
 }
 
 // The rows of all boxes.
+#[tactic(auto, using(lists::proofs::Stores::owes_all, lists::proofs::Stores::owes_none, crate::proofs::Rows::rows_all, crate::proofs::Rows::rows_end, crate::proofs::Long::rows_few, crate::proofs::Long::boxes_few, crate::proofs::Long::size_few, list_judge::proofs::Judged::counts_stand, table::proofs::Tables::table_boxes, table::proofs::Tables::table_size, table::proofs::Tables::accepted_box))]
 fn put_rows(words: &[u32], plan: &[u32], list: &mut [u8], from: usize, part: Part) -> usize
     requires { Accepted words.now × IsPlan (table_of words.now) plan.now × (from ≤ 2048) }
     ensures { Wrote list.old from (rows_of part (table_of words.now) plan.now) result list.new }
 {
     let n = lists::word(words, 0);
     let mut at = from;
-    let mut b = 1;
-    while b <= n {
+    for b in 1..n + 1 {
         let m = table::size(words, b);
         let a = lists::word(plan, lists::wide(b) - 1);
         at = put_row(list, at, part, m, a);
-        b += 1;
     }
     at
 }
 
 // Only the regular part has thresholds.
+#[tactic(auto, using(lists::proofs::Stores::wrote_none), unfolding(decoder::specs::Lists::step_bits))]
 fn put_thresholds(words: &[u32], hard: Hard, plan: &[u32], list: &mut [u8], from: usize) -> usize
     requires { Accepted words.now × IsPlan (table_of words.now) plan.now × (from ≤ 2048) }
     ensures { Wrote list.old from (step_bits hard (table_of words.now) plan.now) result list.new }
@@ -98,20 +83,8 @@ fn put_thresholds(words: &[u32], hard: Hard, plan: &[u32], list: &mut [u8], from
     }
 }
 
-fn put_zeros(list: &mut [u8], from: usize, count: usize) -> usize
-    requires { from + count < 2 ^ 64 }
-    ensures { Wrote list.old from (replicate count 0) result list.new }
-{
-    let mut at = from;
-    let mut i = 0;
-    while i < count {
-        at = stores::put_byte(list, at, 0);
-        i += 1;
-    }
-    at
-}
-
 // The list of a plan: values, thresholds, and every c_k 0.
+#[tactic(auto, using(crate::proofs::Long::values_long, crate::proofs::Long::steps_long, list_judge::proofs::Judged::variables_small, list_judge::proofs::Judged::counts_stand, numbers::proofs::Counted::values_small))]
 fn put_list(words: &[u32], hard: Hard, side: Side, plan: &[u32], list: &mut [u8]) -> usize
     requires { Accepted words.now × IsPlan (table_of words.now) plan.now }
     ensures { Wrote list.old 0 (made hard side (table_of words.now) plan.now) result list.new }
@@ -121,37 +94,44 @@ fn put_list(words: &[u32], hard: Hard, side: Side, plan: &[u32], list: &mut [u8]
     let switches = lists::wide(count);
     let thresholds = put_rows(words, plan, list, 0, Part::Values);
     let end = put_thresholds(words, hard, plan, list, thresholds);
-    put_zeros(list, end, switches)
+    fills::put_run(list, end, 0, switches)
 }
 
 // The answer over an accepted table.
-fn answer(words: &[u32], counts: Counts, e: Encoding, plan: &[u32], list: &mut [u8]) -> Made
+#[tactic(auto, using(refusal::proofs::Results::judged_fine, refusal::proofs::Results::judged_wrong, crate::proofs::Long::made_long, plan::proofs::Plans::fine_plan), unfolding(decoder::specs::Answers::make_fault))]
+fn answer(
+    words: &[u32],
+    counts: Counts,
+    e: Encoding,
+    plan: &[u32],
+    list: &mut [u8],
+) -> Result<usize, Refusal>
     requires { Counted words.now counts }
-    ensures { (result ≡ made_of (Known e) (judged words.now) plan.now (length list.old))
-        × (list.new ≡ list_after (Known e) (judged words.now) plan.now list.old) }
+    ensures { (result ≡ made_of (Ok e) (judged words.now) plan.now (length list.old))
+        × (list.new ≡ list_after (Ok e) (judged words.now) plan.now list.old) }
 {
     let hard = e.hard;
     let side = e.side;
-    let n = counts.boxes;
-    match plan::judge(words, n, plan) {
-        Judged::Wrong(f) => Made::Refused(f),
-        Judged::Fine => {
-            let needed = list_judge::variables(words, hard, side);
-            if list.len() < needed {
-                return Made::Refused(Refusal::Room(needed));
-            }
-            Made::Written(put_list(words, hard, side, plan, list))
-        }
+    plan::judge(words, counts.boxes, plan)?;
+    let needed = list_judge::variables(words, hard, side);
+    if list.len() < needed {
+        return Err(Refusal::Room(needed));
     }
+    Ok(put_list(words, hard, side, plan, list))
 }
 
 // The list of a plan and its length: 8, then 1 to 7 for the table, 10 and 11 for the plan, and 9 for the lent list. A refusal writes nothing.
-pub fn make_list(words: &[u32], hard: u32, side: u32, plan: &[u32], list: &mut [u8]) -> Made
+#[tactic(auto, using(asked::proofs::Answers::asked_ready, asked::proofs::Answers::asked_refused))]
+pub fn make_list(
+    words: &[u32],
+    hard: u32,
+    side: u32,
+    plan: &[u32],
+    list: &mut [u8],
+) -> Result<usize, Refusal>
     ensures { (result ≡ made_of (picked_of hard side) (judged words.now) plan.now (length list.old))
         × (list.new ≡ list_after (picked_of hard side) (judged words.now) plan.now list.old) }
 {
-    match asked::ask(words, hard, side) {
-        Asked::Refused(f) => Made::Refused(f),
-        Asked::Ready(e, counts) => answer(words, counts, e, plan, list),
-    }
+    let (e, counts) = asked::ask(words, hard, side)?;
+    answer(words, counts, e, plan, list)
 }

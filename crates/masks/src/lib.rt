@@ -7,6 +7,7 @@ ghost use Rattle.table.specs.Table.{allowed, In};
 ghost use Rattle.table.specs.Words.{size_at, pair_at, PairStands};
 
 // The mask of value `i` of the first box of the pair at `at`.
+#[tactic(auto, using(table::proofs::Tables::pair_mask))]
 fn mask_at(words: &[u32], at: usize, i: u32) -> u32
     requires { PairStands words.now at × In 1 (size_at words.now (get_or words.now at 0)) i }
     ensures { result ≡ nth (pair_at words.now at).masks i }
@@ -15,6 +16,7 @@ fn mask_at(words: &[u32], at: usize, i: u32) -> u32
 }
 
 // Whether value `i` of the first box and value `j` of the second are allowed together by the pair at `at`.
+#[tactic(auto, unfolding(table::specs::Table::allowed, lists::specs::Bits::in_mask))]
 pub fn allows(words: &[u32], at: usize, i: u32, j: u32) -> bool
     requires { PairStands words.now at
         × In 1 (size_at words.now (get_or words.now at 0)) i

@@ -1,19 +1,18 @@
 -- The answers with the exact lengths and the scratch lengths: 8 for an unknown encoding, then the table's refusal.
+use Rattle.refusal.specs.declared.Refusal.{Refusal}
+use Rattle.std.specs.Prelude.{Result, Ok, Err}
 use Rattle.std.specs.Prelude.{Bool, true, false, [], ◌∷◌}
 use Rattle.refusal.specs.Refusals.{Says, gives, refusal_says}
 use Rattle.table.specs.Table.{Table}
 use Rattle.table.specs.Words.{Outcome}
 use Rattle.clause.specs.declared.Side.{Side}
 use Rattle.clause.specs.declared.Encoding.{Encoding}
-use Rattle.clause.specs.declared.Picked.{Picked}
 use Rattle.clause.specs.Ends.{Which, one, two}
 use Rattle.asked.specs.Asked.{over}
 use Rattle.clause.specs.Numbers.{variables}
 use Rattle.clause.specs.Lengths.{clause_count, literal_count, entry_count, longest, candidate_length_lem, scratch_length, top}
 use Rattle.measure.specs.declared.Lengths.{Lengths}
 use Rattle.measure.specs.declared.Scratch.{Scratch}
-use Rattle.measure.specs.declared.Measured.{Measured}
-use Rattle.measure.specs.declared.Needed.{Needed}
 
 abbrev pub lengths_for : Encoding → Table → Lengths
 lengths_for e t =
@@ -32,21 +31,21 @@ scratch_for s t = record { first = scratch_length s one t; second = scratch_leng
 abbrev pub longest_lists_lem : Table → Scratch
 longest_lists_lem t = record { first = longest (candidate_length_lem t one) t.pairs; second = longest (candidate_length_lem t two) t.pairs }
 
-abbrev pub measured_of : Picked → Outcome → Measured
-measured_of p o = over p o Measured.Refused (λ e t. Measured.Lengths (lengths_for e t))
+abbrev pub measured_of : Result Encoding Refusal → Outcome → Result Lengths Refusal
+measured_of p o = over p o Err (λ e t. Ok (lengths_for e t))
 
-abbrev pub needed_of : Picked → Outcome → Needed
-needed_of p o = over p o Needed.Refused (λ e t. Needed.Scratch (scratch_for e.side t))
+abbrev pub needed_of : Result Encoding Refusal → Outcome → Result Scratch Refusal
+needed_of p o = over p o Err (λ e t. Ok (scratch_for e.side t))
 
 -- success gives variables, clauses, literals without and with closing zeros, and the top
-abbrev pub measured_says : Measured → Says
-measured_says (Measured.Refused f) = refusal_says f
-measured_says (Measured.Lengths l) = gives (l.variables ∷ l.clauses ∷ l.literals ∷ l.entries ∷ l.top ∷ [])
+abbrev pub measured_says : Result Lengths Refusal → Says
+measured_says (Err f) = refusal_says f
+measured_says (Ok l) = gives (l.variables ∷ l.clauses ∷ l.literals ∷ l.entries ∷ l.top ∷ [])
 
 -- success gives the two scratch lengths
-abbrev pub needed_says : Needed → Says
-needed_says (Needed.Refused f) = refusal_says f
-needed_says (Needed.Scratch s) = gives (s.first ∷ s.second ∷ [])
+abbrev pub needed_says : Result Scratch Refusal → Says
+needed_says (Err f) = refusal_says f
+needed_says (Ok s) = gives (s.first ∷ s.second ∷ [])
 
 -- the second end, or the first
 abbrev pub which_by : Bool → Which

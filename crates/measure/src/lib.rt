@@ -1,14 +1,13 @@
 // The exact lengths of a table's clause list, counted without writing anything, and what the scratch buffers must hold.
 #![tactic(auto)]
 
-ghost use Rattle.std.specs.Prelude.{◌≡◌, max};
+ghost use Rattle.std.specs.Prelude.{◌≡◌};
 ghost use Rattle.table.specs.Words.{table_of, judged, pair_at, Accepted, PairStands};
 ghost use Rattle.table.specs.Answers.{Counted};
 ghost use Rattle.clause.specs.Encodings.{picked_of};
 ghost use Rattle.clause.specs.Lengths.{longest, candidate_length_lem};
 ghost use Rattle.measure.specs.Measures.{lengths_for, longest_lists_lem, scratch_for, measured_of, needed_of, which_by};
 
-use asked::Asked;
 use clause::{Encoding, Side};
 use refusal::Refusal;
 use table::Counts;
@@ -30,19 +29,8 @@ pub struct Scratch {
     pub second: usize,
 }
 
-#[derive(Clone, Copy)]
-pub enum Measured {
-    Lengths(Lengths),
-    Refused(Refusal),
-}
-
-#[derive(Clone, Copy)]
-pub enum Needed {
-    Scratch(Scratch),
-    Refused(Refusal),
-}
-
 // The exact lengths over an accepted table.
+#[tactic(auto, using(crate::proofs::Measuring::lengths_made, numbers::proofs::Counted::bases_few, numbers::proofs::Counted::switches_few))]
 pub fn measure(words: &[u32], counts: Counts, e: Encoding) -> Lengths
     requires { Counted words.now counts }
     ensures { result ≡ lengths_for e (table_of words.now) }
@@ -66,25 +54,16 @@ pub fn measure(words: &[u32], counts: Counts, e: Encoding) -> Lengths
 }
 
 // The exact lengths of the clause list: 8 for an unknown encoding, then 1 to 7.
-pub fn exact_lengths(words: &[u32], hard: u32, side: u32) -> Measured
+#[tactic(auto, using(asked::proofs::Answers::asked_ready, asked::proofs::Answers::asked_refused))]
+pub fn exact_lengths(words: &[u32], hard: u32, side: u32) -> Result<Lengths, Refusal>
     ensures { result ≡ measured_of (picked_of hard side) (judged words.now) }
 {
-    match asked::ask(words, hard, side) {
-        Asked::Refused(f) => Measured::Refused(f),
-        Asked::Ready(e, counts) => Measured::Lengths(measure(words, counts, e)),
-    }
-}
-
-fn larger(a: usize, b: usize) -> usize
-    ensures { result ≡ max a b }
-{
-    if a < b {
-        return b;
-    }
-    a
+    let (e, counts) = asked::ask(words, hard, side)?;
+    Ok(measure(words, counts, e))
 }
 
 // How long the list of one end of the pair at the cursor is, closing zeros included.
+#[tactic(auto, using(crate::proofs::Measuring::candidate_is, sight::proofs::Sight::sees, sight::proofs::Sight::both_seen))]
 fn candidate(words: &[u32], at: usize, second: bool) -> usize
     requires { Accepted words.now × PairStands words.now at }
     ensures { result ≡ candidate_length_lem (table_of words.now) (which_by second) (pair_at words.now at) }
@@ -101,14 +80,11 @@ fn longest_list(words: &[u32], counts: Counts, second: bool) -> usize
     requires { Counted words.now counts }
     ensures { result ≡ longest (candidate_length_lem (table_of words.now) (which_by second)) (table_of words.now).pairs }
 {
-    let p = counts.pairs;
-    let mut best = 0;
+    let mut best = 0_usize;
     let mut at = counts.boxes + 2;
-    let mut k = 0;
-    while k < p {
-        best = larger(best, candidate(words, at, second));
+    for _ in 0..counts.pairs {
+        best = best.max(candidate(words, at, second));
         at = totals::next_pair(words, at);
-        k += 1;
     }
     best
 }
@@ -124,37 +100,25 @@ fn longest_lists(words: &[u32], counts: Counts) -> Scratch
 }
 
 // What the two scratch buffers must hold over an accepted table: nothing on the sides that do not choose.
+#[tactic(auto, unfolding(clause::specs::Lengths::scratch_length))]
 pub fn scratch_over(words: &[u32], counts: Counts, side: Side) -> Scratch
     requires { Counted words.now counts }
     ensures { result ≡ scratch_for side (table_of words.now) }
 {
     match side {
-        Side::Direct => Scratch {
+        Side::Direct | Side::Support | Side::First => Scratch {
             first: 0,
             second: 0,
         },
-        Side::Support => Scratch {
-            first: 0,
-            second: 0,
-        },
-        Side::First => Scratch {
-            first: 0,
-            second: 0,
-        },
-        Side::Literals => longest_lists(words, counts),
-        Side::Score => longest_lists(words, counts),
+        Side::Literals | Side::Score => longest_lists(words, counts),
     }
 }
 
 // The scratch lengths: 8 for an unknown encoding, then 1 to 7.
-pub fn scratch_lengths(words: &[u32], hard: u32, side: u32) -> Needed
+#[tactic(auto, using(asked::proofs::Answers::asked_ready, asked::proofs::Answers::asked_refused))]
+pub fn scratch_lengths(words: &[u32], hard: u32, side: u32) -> Result<Scratch, Refusal>
     ensures { result ≡ needed_of (picked_of hard side) (judged words.now) }
 {
-    match asked::ask(words, hard, side) {
-        Asked::Refused(f) => Needed::Refused(f),
-        Asked::Ready(e, counts) => {
-            let chosen = e.side;
-            Needed::Scratch(scratch_over(words, counts, chosen))
-        }
-    }
+    let (e, counts) = asked::ask(words, hard, side)?;
+    Ok(scratch_over(words, counts, e.side))
 }

@@ -74,7 +74,7 @@ module _ (ws : List ℕ) (A : Accepted ws) where
 
   -- ---- small numbers
 
-  few_boxes : box_count ws ≤ 64
+  pub few_boxes : box_count ws ≤ 64
   few_boxes = (accepted_parts ws A).boxes.range.1
 
   pub base_small : (b : ℕ) → In 1 (box_count ws + 1) b → value_base_lem (table_of ws) b ≤ 1024

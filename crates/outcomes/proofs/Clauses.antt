@@ -1,6 +1,10 @@
 -- Decided by the inputs: the clauses of a box and of a pair, and what they are made of.
 use mathlib.Core.List.{List}
 use lib.IntN.{ℤ}
+use denote.RattleType.{RattleType}
+use denote.Param.Laws.{Laws, IsCopy}
+use mir.Syntax.{Dict}
+use Rattle.std.specs.declared.clone.Clone.{Ghosts}
 use Rattle.outcomes.specs.Decided.{Decided, DecidedBy}
 use Rattle.outcomes.proofs.Law.{same, decided}
 use Rattle.puts
@@ -27,14 +31,13 @@ puts_put_minus_decided = decided λ _ _ _ _ p q. search same
 pub puts_put_close_decided : Decided puts.specs.contracts.put_close.ended puts.proofs.put_close.Reads.Post
 puts_put_close_decided = decided λ _ _ _ _ p q. search same
 
-pub puts_put_part_decided : Decided puts.specs.contracts.put_part.ended puts.proofs.put_part.Reads.Post
-puts_put_part_decided = decided λ _ _ _ _ p q. search same
-
 pub fills_clear_decided : Decided fills.specs.contracts.clear.ended fills.proofs.clear.Reads.Post
 fills_clear_decided = decided λ _ _ _ _ p q. search same
 
-pub fills_put_weights_decided : Decided fills.specs.contracts.put_weights.ended fills.proofs.put_weights.Reads.Post
-fills_put_weights_decided = decided λ _ _ _ _ p q. search same
+-- of entries of any type that is copied
+module _ (T : RattleType) (L : Laws T) (C : IsCopy T) (G : Ghosts T.Denot) (d : Dict) where
+  pub fills_put_run_decided : Decided (fills.specs.contracts.put_run.ended T G d) (fills.proofs.put_run.Reads.Post T L C G d)
+  fills_put_run_decided = decided λ _ _ _ _ p q. search same
 
 pub clause_pick_decided : Decided clause.specs.contracts.pick.ended clause.proofs.pick.Reads.Post
 clause_pick_decided = decided λ _ _ _ _ p q. search same

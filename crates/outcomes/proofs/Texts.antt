@@ -1,4 +1,8 @@
 -- Decided by the inputs: bytes, lines and numbers in and out, what the programs print, the list line, and WCNF text.
+use denote.RattleType.{RattleType}
+use denote.Param.Laws.{Laws, IsCopy}
+use mir.Syntax.{Dict}
+use Rattle.std.specs.declared.clone.Clone.{Ghosts}
 use Rattle.outcomes.specs.Decided.{Decided}
 use Rattle.outcomes.proofs.Law.{same, decided}
 use Rattle.text_out
@@ -16,17 +20,13 @@ use Rattle.wcnf_parts
 use Rattle.wcnf_text
 use Rattle.wcnf_out
 
-pub stores_put_byte_decided : Decided stores.specs.contracts.put_byte.ended stores.proofs.put_byte.Reads.Post
-stores_put_byte_decided = decided λ _ _ _ _ p q. search same
+-- of entries of any type that is copied
+module _ (T : RattleType) (L : Laws T) (C : IsCopy T) (G : Ghosts T.Denot) (d : Dict) where
+  pub stores_put_decided : Decided (stores.specs.contracts.put.ended T G d) (stores.proofs.put.Reads.Post T L C G d)
+  stores_put_decided = decided λ _ _ _ _ p q. search same
 
-pub stores_put_word_decided : Decided stores.specs.contracts.put_word.ended stores.proofs.put_word.Reads.Post
-stores_put_word_decided = decided λ _ _ _ _ p q. search same
-
-pub stores_put_words_decided : Decided stores.specs.contracts.put_words.ended stores.proofs.put_words.Reads.Post
-stores_put_words_decided = decided λ _ _ _ _ p q. search same
-
-pub text_out_put_bytes_decided : Decided text_out.specs.contracts.put_bytes.ended text_out.proofs.put_bytes.Reads.Post
-text_out_put_bytes_decided = decided λ _ _ _ _ p q. search same
+  pub stores_put_all_decided : Decided (stores.specs.contracts.put_all.ended T G d) (stores.proofs.put_all.Reads.Post T L C G d)
+  stores_put_all_decided = decided λ _ _ _ _ p q. search same
 
 pub text_out_put_number_decided : Decided text_out.specs.contracts.put_number.ended text_out.proofs.put_number.Reads.Post
 text_out_put_number_decided = decided λ _ _ _ _ p q. search same

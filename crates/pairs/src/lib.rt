@@ -26,6 +26,7 @@ fn bare(tally: EndTally) -> Tally
 }
 
 // How many entries an end's list has, closing zeros included.
+#[tactic(auto, using(crate::proofs::Sums::end_clauses, crate::proofs::Sums::end_literals, crate::proofs::Sums::end_few, sight::proofs::Sight::seen_small, clause::proofs::Lengths::entries_length))]
 pub fn candidate_length(words: &[u32], seen: Seen) -> usize
     requires { SeenWell words.now seen }
     ensures { result ≡ length (entries_of (support_clauses (end_of words.now seen) [])) }
@@ -34,6 +35,7 @@ pub fn candidate_length(words: &[u32], seen: Seen) -> usize
     tally.clauses + tally.literals
 }
 
+#[tactic(auto, using(crate::proofs::Sums::direct_tally_lem, crate::proofs::Sums::direct_few, sight::proofs::Sight::seen_small))]
 fn direct_tally(words: &[u32], seen: Seen) -> Tally
     requires { SeenWell words.now seen }
     ensures { result ≡ tally_of (direct_clauses (end_of words.now seen)) }

@@ -31,20 +31,20 @@ pub fn put_box(words: &[u32], n: u32, part: Hard, b: u32, out: &mut [i32], at: u
 }
 
 // The hard part, box by box.
+#[tactic(auto, using(crate::proofs::Writing::hards_room, crate::proofs::Writing::hards_none))]
 pub fn put_hard(words: &[u32], n: u32, part: Hard, out: &mut [i32], from: usize) -> usize
     requires { Accepted words.now × (n ≡ box_count words.now) × (from + length (entries_of (hard_part part (table_of words.now))) < 2 ^ 64) }
     ensures { Wrote out.old from (entries_of (hard_part part (table_of words.now))) result out.new }
 {
     let mut at = from;
-    let mut b = 1;
-    while b <= n {
+    for b in 1..=n {
         at = put_box(words, n, part, b, out, at);
-        b += 1;
     }
     at
 }
 
 // The soft part, pair by pair. Only the sides that choose use the scratch slices.
+#[tactic(auto, using(crate::proofs::Writing::head_inside, crate::proofs::Writing::boxes_few, table::proofs::Words::ahead_turn, numbers::proofs::Counted::bases_few))]
 pub fn put_soft(
     words: &[u32],
     counts: Counts,
@@ -70,12 +70,10 @@ pub fn put_soft(
     let mut switch = numbers::switch_base(words, n, part);
     let mut cursor = from;
     let mut at = counts.boxes + 2;
-    let mut k = 0;
-    while k < p {
+    for _ in 0..p {
         switch += 1;
         cursor = soft::put_pair(words, side, switch, at, first, second, out, cursor);
         at = totals::next_pair(words, at);
-        k += 1;
     }
     cursor
 }

@@ -1,6 +1,6 @@
 -- A plan without a fault is one value of its domain for each box; a box of a pair finds its value there.
 use mathlib.Core.Path.{◌≡◌, refl, sym, ap, ap₂, ◌∙◌}
-use mathlib.Core.Option.{Option, none, some}
+use mathlib.Core.Option.{none, some}
 use mathlib.Core.List.{List}
 use Prim.Native.Nat.{ℕ, ◌+◌, ◌-◌, ◌≤◌, ◌<◌}
 use native.Mathlib.Nat.{zero-add}
@@ -12,23 +12,13 @@ use mathlib.Core.Bool.{Bool, true, false, not, cond}
 use Rattle.lists.specs.Lists.{nth, sum_of}
 use Rattle.lists.specs.Firsts.{unless, first_of}
 use Rattle.lists.proofs.Firsts.{unless_none, then_none, none_then, first_each, each_first}
-use Rattle.refusal.specs.declared.Refusal.{Refusal}
 use Rattle.refusal.specs.declared.Refusal.TheVariants.{Length, Entry}
 use Rattle.table.specs.Table.{Table, boxes, size, allowed, In}
 use Rattle.table.specs.Words.{box_count, pair_count, size_at, pair_at, table_of, Accepted, PairStands}
 use Rattle.table.proofs.Tables.{table_boxes, table_size, table_pairs, sum_ahead, pair_first, pair_second, pair_weight}
 use Rattle.reader.specs.declared.PairHead.{PairHead}
 use Rattle.reader.specs.Reader.{head_at_lem}
-use Rattle.plan.specs.declared.Judged.{Judged}
-use Rattle.plan.specs.Plan.{IsPlan, broken, charge, cost, value_fault, plan_fault, judged_of}
-
-pub judged_fine : (o : Option Refusal) → judged_of o ≡ Judged.Fine → o ≡ none
-judged_fine none e = refl
-judged_fine (some f) e = cc
-
-pub judged_wrong : (o : Option Refusal) {f : Refusal} → judged_of o ≡ Judged.Wrong f → o ≡ some f
-judged_wrong none e = cc
-judged_wrong (some g) e = cc
+use Rattle.plan.specs.Plan.{IsPlan, broken, charge, cost, value_fault, plan_fault}
 
 pub value_none : (t : Table) (plan : List ℕ) (i : ℕ) → value_fault t plan i ≡ none → In 1 (size t (i + 1)) (get_or plan i 0)
 unfolding value_fault

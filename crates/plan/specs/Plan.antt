@@ -1,15 +1,14 @@
 -- A plan gives each box a value. What it costs, and what is wrong with it first.
+use Rattle.std.specs.Prelude.{Result, Ok, Err}
 use Rattle.std.specs.Prelude.{ℕ, ◌+◌, ◌≤◌, ◌<◌, ◌≡◌, Bool, not, cond, List, [], ◌∷◌, length, get_or, leb, eqb}
-use Rattle.std.proofs.Math.Option.{Option, none, some}
+use Rattle.std.proofs.Math.Option.{Option}
 use Rattle.lists.specs.Firsts.{◌then◌, unless, first_of}
 use Rattle.lists.specs.Lists.{nth, sum_of}
 use Rattle.refusal.specs.declared.Refusal.{Refusal}
 use Rattle.refusal.specs.declared.Refusal.TheVariants.{Length, Entry}
-use Rattle.refusal.specs.Refusals.{Says, gives, refusal_says}
+use Rattle.refusal.specs.Refusals.{result_of, Says, gives, refusal_says}
 use Rattle.table.specs.Table.{Pair, Table, boxes, size, allowed, In}
 use Rattle.table.specs.Words.{Outcome, refused, accepted}
-use Rattle.plan.specs.declared.Judged.{Judged}
-use Rattle.plan.specs.declared.Costed.{Costed}
 
 pub record IsPlan (t : Table) (plan : List ℕ) : Type 0 where
   pub long : length plan ≡ boxes t
@@ -44,20 +43,12 @@ plan_fault t plan = unless (eqb (length plan) (boxes t)) (Length (boxes t)) then
 
 -- ---- the answers
 
-abbrev pub judged_of : Option Refusal → Judged
-judged_of none = Judged.Fine
-judged_of (some f) = Judged.Wrong f
-
-abbrev pub costed_with : Option Refusal → ℕ → Costed
-costed_with none c = Costed.Cost c
-costed_with (some f) c = Costed.Refused f
-
 -- the table's refusals, then the plan's; else the cost
-abbrev pub costed_of : Outcome → List ℕ → Costed
-costed_of (refused f) plan = Costed.Refused f
-costed_of (accepted t) plan = costed_with (plan_fault t plan) (cost t plan)
+abbrev pub costed_of : Outcome → List ℕ → Result ℕ Refusal
+costed_of (refused f) plan = Err f
+costed_of (accepted t) plan = result_of (plan_fault t plan) (cost t plan)
 
 -- success gives the cost
-abbrev pub costed_says : Costed → Says
-costed_says (Costed.Refused f) = refusal_says f
-costed_says (Costed.Cost c) = gives (c ∷ [])
+abbrev pub costed_says : Result ℕ Refusal → Says
+costed_says (Err f) = refusal_says f
+costed_says (Ok c) = gives (c ∷ [])

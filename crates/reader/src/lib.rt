@@ -22,6 +22,7 @@ pub struct Reader<'a> {
 }
 
 // What is read of the pair at `at`. The reader leaves the reading to this function, over a plain slice.
+#[tactic(auto, unfolding(table::specs::Words::pair_at, table::specs::Words::pair_next))]
 fn head_at(words: &[u32], at: usize) -> PairHead
     requires { PairStands words.now at }
     ensures { result ≡ head_at_lem words.now at }

@@ -1,5 +1,6 @@
 -- The refusals of document 01: the number and the place of each, and what an answer says in the document's terms.
-use Rattle.std.specs.Prelude.{ℕ, List}
+use Rattle.std.specs.Prelude.{ℕ, List, Result, Ok, Err, ⊤}
+use Rattle.std.proofs.Math.Option.{Option, none, some}
 use Rattle.refusal.specs.declared.Refusal.{Refusal}
 use Rattle.refusal.specs.declared.Refusal.TheVariants.{Missing, Extra, Count, Domain, Partner, Weight, Mask, Choice, Room, Length, Entry, Broken, Line}
 
@@ -32,6 +33,15 @@ place_of (Length wanted) = wanted
 place_of (Entry at) = at
 place_of (Broken box) = box
 place_of (Line line) = line
+
+-- An answer: the value, unless something is wrong.
+abbrev pub result_of : {T : Type 0} → Option Refusal → T → Result T Refusal
+result_of none x = Ok x
+result_of (some f) x = Err f
+
+-- The answer of a judgement, which has nothing to give.
+abbrev pub judged_of : Option Refusal → Result ⊤ Refusal
+judged_of o = result_of o tt
 
 -- What an answer says: on success the document's values in its order, else the refusal's number and place.
 pub data Says : Type 0 where

@@ -48,18 +48,18 @@ pub fn place(f: Refusal) -> usize
     ensures { result ≡ place_of f }
 {
     match f {
-        Refusal::Missing(at) => at,
-        Refusal::Extra(at) => at,
-        Refusal::Count(at) => at,
-        Refusal::Domain(at) => at,
-        Refusal::Partner(at) => at,
-        Refusal::Weight(at) => at,
-        Refusal::Mask(at) => at,
+        Refusal::Missing(place)
+        | Refusal::Extra(place)
+        | Refusal::Count(place)
+        | Refusal::Domain(place)
+        | Refusal::Partner(place)
+        | Refusal::Weight(place)
+        | Refusal::Mask(place)
+        | Refusal::Room(place)
+        | Refusal::Length(place)
+        | Refusal::Entry(place)
+        | Refusal::Broken(place)
+        | Refusal::Line(place) => place,
         Refusal::Choice => 0,
-        Refusal::Room(needed) => needed,
-        Refusal::Length(wanted) => wanted,
-        Refusal::Entry(at) => at,
-        Refusal::Broken(box_number) => box_number,
-        Refusal::Line(line) => line,
     }
 }

@@ -1,6 +1,6 @@
--- How long the line is, exactly and at most: what a program's buffer has to hold.
-use mathlib.Core.Path.{◌≡◌}
-use Prim.Native.Nat.{◌+◌, ◌^◌, ◌≤◌, ◌<◌}
+-- How long the line and its parts are, exactly and at most: what a program's buffer has to hold.
+use mathlib.Core.Path.{◌≡◌, refl}
+use Prim.Native.Nat.{ℕ, ◌+◌, ◌^◌, ◌≤◌, ◌<◌}
 use native.Mathlib.Omega.{arith}
 use lib.ListN.{length, length-append}
 use Rattle.lists.specs.Decimal.{digits}
@@ -16,6 +16,12 @@ pub length_refused : (f : Refusal) → length (refused_line f) ≡ 8 + (length (
 unfolding refused_line
 length_refused f = simp length-append (omega arith)
 
+-- the number, and the place with its key and the line feed
+pub short_number : (f : Refusal) (n : ℕ) → n ≡ number_of f → length (digits n) ≤ 2
+short_number f n e = length_digits 1 n (omega (arith, small_number f))
+
+pub short_place : (p : ℕ) → p < 2 ^ 64 → length (line_of place_key p) ≤ 28
+short_place p h = short_line place_key 19 p (omega arith)
+
 pub short_refused : (f : Refusal) → place_of f < 2 ^ 64 → length (refused_line f) ≤ 38
-short_refused f h =
-    omega (arith, length_refused f, length_digits 1 (number_of f) (small_number f), short_line place_key 19 (place_of f) (omega arith))
+short_refused f h = omega (arith, length_refused f, short_number f (number_of f) refl, short_place (place_of f) h)

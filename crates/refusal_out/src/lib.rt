@@ -14,7 +14,7 @@ pub fn put_refused(out: &mut [u8], at: usize, f: Refusal) -> usize
 {
     let number = refusal::number(f) as u64;
     let place = refusal::place(f) as u64;
-    let one = text_out::put_bytes(out, at, b"refused=");
+    let one = stores::put_all(out, at, b"refused=");
     let two = text_out::put_number(out, one, number);
     text_out::put_line(out, two, b" place=", place)
 }

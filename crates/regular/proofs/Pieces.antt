@@ -1,5 +1,5 @@
 -- A regular box, piece by piece, and its clauses in the code's numbers.
-use mathlib.Core.Path.{◌≡◌}
+use mathlib.Core.Path.{◌≡◌, refl}
 use mathlib.Core.List.{[], ◌∷◌, ◌++◌, map, flat_map}
 use Prim.Native.Nat.{ℕ, zero, suc, ◌+◌, ◌-◌, ◌≤◌, ◌<◌}
 use native.Mathlib.Omega.{arith}
@@ -38,6 +38,18 @@ pub chain_turn : (s n j : ℕ) → j < n
     ≡ closed (minus (s + (j - 1)) ∷ plus (s + (j - 2)) ∷ []) ++ entries_of (map (chain_at (step_from s)) (count (j + 1) (n - (j + 1))))
 unfolding chain_at
 chain_turn s n j h = let z : j - 1 - 1 ≡ j - 2 = omega arith in rw (← z) (text_turn (chain_at (step_from s)) n j h)
+
+-- the two clauses of the lowest value and of the highest, in the code's numbers
+pub lowest_text : (v s : ℕ)
+    → entries_of (lowest (value_from v) (step_from s)) ≡ closed (minus (v + 1) ∷ minus (s + 1) ∷ []) ++ closed (plus (v + 1) ∷ plus (s + 1) ∷ [])
+unfolding lowest entries_of flat_map
+lowest_text v s = refl
+
+pub highest_text : (v s m : ℕ)
+    → entries_of (highest (value_from v) (step_from s) m)
+    ≡ closed (minus (v + m) ∷ plus (s + (m - 1)) ∷ []) ++ closed (plus (v + m) ∷ minus (s + (m - 1)) ∷ [])
+unfolding highest entries_of flat_map
+highest_text v s m = refl
 
 -- the three clauses of a value between, in the code's numbers
 pub between_text : (v s j : ℕ)

@@ -1,29 +1,18 @@
 -- What a judgement of the room says to its caller.
-use mathlib.Core.Path.{◌≡◌, refl}
-use mathlib.Core.Option.{Option, none, some}
+use mathlib.Core.Path.{◌≡◌}
+use mathlib.Core.Option.{none}
 use Prim.Native.Nat.{ℕ, ◌≤◌}
 use lib.Dec.{leb}
-use borrow.Author.Tests.{leb-true}
+use borrow.Author.Tests.{leb-true, le-leb, lt-leb}
 use Rattle.lists.specs.Firsts.{unless}
 use Rattle.lists.proofs.Firsts.{unless_none, then_none}
-use Rattle.refusal.specs.declared.Refusal.{Refusal}
 use Rattle.refusal.specs.declared.Refusal.TheVariants.{Room}
 use Rattle.measure.specs.declared.Lengths.{Lengths}
 use Rattle.measure.specs.declared.Scratch.{Scratch}
-use Rattle.room.specs.declared.Fit.{Fit}
-use Rattle.room.specs.Room.{two_fault, clauses_fault, text_fault, fit_of}
+use Rattle.room.specs.Room.{two_fault, clauses_fault, text_fault}
 
-pub fit_enough : (o : Option Refusal) → fit_of o ≡ Fit.Enough → o ≡ none
-fit_enough none e = refl
-fit_enough (some f) e = cc
-
-pub fit_short : (o : Option Refusal) {f : Refusal} → fit_of o ≡ Fit.Short f → o ≡ some f
-fit_short none e = cc
-fit_short (some g) e = cc
-
--- a judgement by numbers that were measured is one by what they are equal to
-pub as_judged : {A B : Type 0} (f : A → B → Option Refusal) {a m : A} {b n : B} {r : Fit} → a ≡ m → b ≡ n → r ≡ fit_of (f a b) → r ≡ fit_of (f m n)
-as_judged f e g h = rw (e, g) at h
+-- a test of the code, and the same test of the definitions
+pub ruleset tests = (le-leb, lt-leb)
 
 -- where neither of two is too short, both hold what they need
 two_hold : (a b first second : ℕ) → two_fault a b first second ≡ none

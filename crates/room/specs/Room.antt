@@ -1,12 +1,11 @@
 -- 9 with the length needed, for the first lent buffer that is too short: the first scratch, the second, then what is written into.
 use Rattle.std.specs.Prelude.{ℕ, leb}
-use Rattle.std.proofs.Math.Option.{Option, none, some}
+use Rattle.std.proofs.Math.Option.{Option}
 use Rattle.lists.specs.Firsts.{◌then◌, unless}
 use Rattle.refusal.specs.declared.Refusal.{Refusal}
 use Rattle.refusal.specs.declared.Refusal.TheVariants.{Room}
 use Rattle.measure.specs.declared.Lengths.{Lengths}
 use Rattle.measure.specs.declared.Scratch.{Scratch}
-use Rattle.room.specs.declared.Fit.{Fit}
 
 abbrev short : (needed room : ℕ) → Option Refusal
 short needed room = unless (leb needed room) (Room needed)
@@ -23,8 +22,3 @@ clauses_fault n s first second literals weights =
 -- for a text
 unfoldable pub text_fault : Scratch → (long first second text : ℕ) → Option Refusal
 text_fault s long first second text = two_fault s.first s.second first second then short long text
-
--- as the code has it
-abbrev pub fit_of : Option Refusal → Fit
-fit_of none = Fit.Enough
-fit_of (some f) = Fit.Short f

@@ -2,31 +2,28 @@
 #![tactic(auto)]
 
 ghost use Rattle.std.specs.Prelude.{◌≡◌};
-ghost use Rattle.room.specs.Room.{two_fault, clauses_fault, text_fault, fit_of};
+ghost use Rattle.refusal.specs.Refusals.{judged_of};
+ghost use Rattle.room.specs.Room.{two_fault, clauses_fault, text_fault};
 
 use measure::{Lengths, Scratch};
 use refusal::Refusal;
 
-#[derive(Clone, Copy)]
-pub enum Fit {
-    Enough,
-    Short(Refusal),
-}
-
 // Of two buffers that need `a` and `b` entries, the first that is too short.
-fn for_two(a: usize, b: usize, first: usize, second: usize) -> Fit
-    ensures { result ≡ fit_of (two_fault a b first second) }
+#[tactic(auto, using(crate::proofs::Fits::tests), unfolding(crate::specs::Room::two_fault))]
+fn for_two(a: usize, b: usize, first: usize, second: usize) -> Result<(), Refusal>
+    ensures { result ≡ judged_of (two_fault a b first second) }
 {
     if first < a {
-        return Fit::Short(Refusal::Room(a));
+        return Err(Refusal::Room(a));
     }
     if second < b {
-        return Fit::Short(Refusal::Room(b));
+        return Err(Refusal::Room(b));
     }
-    Fit::Enough
+    Ok(())
 }
 
 // For a clause list and its weights.
+#[tactic(auto, using(refusal::proofs::Results::judged_fine, refusal::proofs::Results::judged_wrong), unfolding(crate::specs::Room::clauses_fault))]
 pub fn for_clauses(
     needed: Lengths,
     scratch: Scratch,
@@ -34,26 +31,27 @@ pub fn for_clauses(
     second: usize,
     literals: usize,
     weights: usize,
-) -> Fit
-    ensures { result ≡ fit_of (clauses_fault needed scratch first second literals weights) }
+) -> Result<(), Refusal>
+    ensures { result ≡ judged_of (clauses_fault needed scratch first second literals weights) }
 {
-    match for_two(scratch.first, scratch.second, first, second) {
-        Fit::Short(f) => Fit::Short(f),
-        Fit::Enough => for_two(needed.entries, needed.clauses, literals, weights),
-    }
+    for_two(scratch.first, scratch.second, first, second)?;
+    for_two(needed.entries, needed.clauses, literals, weights)
 }
 
 // For a text of that length.
-pub fn for_text(scratch: Scratch, long: usize, first: usize, second: usize, text: usize) -> Fit
-    ensures { result ≡ fit_of (text_fault scratch long first second text) }
+#[tactic(auto, using(refusal::proofs::Results::judged_fine, refusal::proofs::Results::judged_wrong, crate::proofs::Fits::tests), unfolding(crate::specs::Room::text_fault))]
+pub fn for_text(
+    scratch: Scratch,
+    long: usize,
+    first: usize,
+    second: usize,
+    text: usize,
+) -> Result<(), Refusal>
+    ensures { result ≡ judged_of (text_fault scratch long first second text) }
 {
-    match for_two(scratch.first, scratch.second, first, second) {
-        Fit::Short(f) => Fit::Short(f),
-        Fit::Enough => {
-            if text < long {
-                return Fit::Short(Refusal::Room(long));
-            }
-            Fit::Enough
-        }
+    for_two(scratch.first, scratch.second, first, second)?;
+    if text < long {
+        return Err(Refusal::Room(long));
     }
+    Ok(())
 }

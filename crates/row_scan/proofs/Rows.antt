@@ -1,6 +1,6 @@
 -- A row is found exactly where its text stands: its characters are the bits of the mask found, the lowest leftmost.
 use Prim.Native.Nat.{ℕ, zero, suc, ◌+◌, ◌-◌, ◌*◌, ◌/◌, ◌%◌, ◌^◌, ◌≤◌, ◌<◌}
-use native.Mathlib.Nat.{mod-lt, div-add-mod', pow-suc, not-suc-le-zero, add-sub_cancel_left, div-lt_iff_lt-mul}
+use native.Mathlib.Nat.{sub_self, mod-lt, div-add-mod', pow-suc, not-suc-le-zero, add-sub_cancel_left, div-lt_iff_lt-mul}
 use native.Mathlib.Numerals.{add-one, sub-one}
 use native.Mathlib.Omega.{arith}
 use mathlib.Core.Bool.{true, false}
@@ -9,11 +9,12 @@ use mathlib.Core.List.{List, [], ◌∷◌, ◌++◌}
 use lib.ListN.{length, drop, get_or, drop_of_length-le, length-drop}
 use lib.Seq.{drop-cons, get_or-drop, drop-drop}
 use lib.Arith.{digits_div, digits_mod}
-use Rattle.scan.specs.declared.Line.TheVariants.{Found}
+use Rattle.std.specs.Prelude.{Some}
+use Rattle.std.proofs.lemmas.Option.{some_pair_parts}
 use Rattle.scan.specs.Stands.{Stands, begins}
 use Rattle.scan.specs.Lines.{gate}
 use Rattle.scan.proofs.Places.{past, stands_of, and_both, begins_append, begins_split}
-use Rattle.scan.proofs.Lines.{gate_open, Exact}
+use Rattle.scan.proofs.Lines.{found_at, gate_open, Exact}
 use lib.Pow.{pow_mono}
 use lib.Dec.{eqb, leb}
 use borrow.Author.Tests.{eqb-true, le-leb, lt-leb, leb-true}
@@ -84,12 +85,18 @@ row_long (suc m) (c ∷ l) e =
     let b = and_both (leb c 49) _ a.1 in
     omega (arith, row_long m l b.1)
 
+-- a row of m and its line feed end within s
+pub row_ends : (m i : ℕ) (s : List ℕ) → is_row m (drop i s) ≡ true → i + m + 1 ≤ length s
+row_ends m i s e = omega (arith, row_long m (drop i s) e, length-drop i s)
+
 -- ---- the loop that goes from the last value down: j is the value that a turn takes in
 
-pub value_none : (m : ℕ) (l : List ℕ) → m ≡ 0 → value_of m l ≡ 0
+pub value_none : (m : ℕ) (l : List ℕ) → value_of (m - m) l ≡ 0
 unfolding value_of
-value_none zero l e = refl
-value_none (suc m) l e = absurd (omega arith)
+value_none m l = rw sub_self
+
+small_32 : (v k : ℕ) → k ≤ 32 → v < 2 ^ k → v < 2 ^ 32
+small_32 v k h e = omega (arith, pow_mono {i = k} {j = 32} h)
 
 module _ (s : List ℕ) (at m j : ℕ) (r : is_row m (drop at s) ≡ true) (h : 1 ≤ j) (k : j ≤ m) where
   pub turn_bit : Bit s (at + (j - 1))
@@ -109,8 +116,11 @@ module _ (s : List ℕ) (at m j : ℕ) (r : is_row m (drop at s) ≡ true) (h : 
       let n : m - (j - 1) ≡ suc (m - j) = omega arith in
       rw (n, pow-suc) (omega (arith, turn_bit.high))
 
-pub small_32 : (v k : ℕ) → k ≤ 32 → v < 2 ^ k → v < 2 ^ 32
-small_32 v k h e = omega (arith, pow_mono {i = k} {j = 32} h)
+  pub turn_in : at + (j - 1) < length s
+  turn_in = turn_bit.within
+
+  pub turn_fits : m ≤ 32 → (v : ℕ) → v < 2 ^ (m - j) → v * 2 + (get_or s (at + (j - 1)) 0 - 48) < 2 ^ 32
+  turn_fits w v e = small_32 _ (m - (j - 1)) (omega arith) (turn_small v e)
 
 -- ---- what is written is read
 
@@ -129,13 +139,13 @@ value_bits_lem (suc m) x l h =
     rw (value_bits_lem m (x / 2) l s, add-sub_cancel_left 48 (x % 2)) (div-add-mod' x 2)
 
 pub row_found : (s : List ℕ) (i : ℕ) (key : List ℕ) (m x : ℕ) (rest : List ℕ) → x < 2 ^ m → drop i s ≡ row_of key m x ++ rest
-    → row_at s i key m ≡ Found x (i + length (row_of key m x))
+    → row_at s i key m ≡ Some (x, i + length (row_of key m x))
 unfolding row_at gate
 row_found s i key m x rest h e =
     let l : List ℕ = bits_of m x ++ (10 ∷ rest) in
     let e' : drop i s ≡ key ++ l = e ∙ sym (row_split key m x rest) in
     let t : begins key (drop i s) ≡ true = rw e' (begins_append key l) in
-    rw (t, past s i key l e', bits_are_row m x rest, value_bits_lem m x (10 ∷ rest) h, length_row) (ap (Found x) (omega arith))
+    rw (t, past s i key l e', bits_are_row m x rest, value_bits_lem m x (10 ∷ rest) h, length_row) (found_at x (omega arith))
 
 -- ---- what is read was written
 
@@ -160,15 +170,14 @@ pub record WasRow (s : List ℕ) (i : ℕ) (key : List ℕ) (m x k : ℕ) : Type
   pub stands : Stands s i (row_of key m x) k
   pub small : x < 2 ^ m
 
-pub row_was : (s : List ℕ) (i : ℕ) (key : List ℕ) (m x k : ℕ) → row_at s i key m ≡ Found x k → WasRow s i key m x k
+pub row_was : (s : List ℕ) (i : ℕ) (key : List ℕ) (m x k : ℕ) → row_at s i key m ≡ Some (x, k) → WasRow s i key m x k
 unfolding row_at
 row_was s i key m x k e =
     let a = gate_open (begins key (drop i s)) _ e in
     let l : List ℕ = drop (i + length key) s in
     let b = gate_open (is_row m l) _ a.1 in
     let r = row_text m l b.0 in
-    let same : value_of m l ≡ x = cc in
-    let next : i + length key + m + 1 ≡ k = cc in
+    let (same, next) = some_pair_parts _ _ _ _ b.1 in
     let split : drop i s ≡ row_of key m x ++ drop (suc m) l =
     begins_split key (drop i s) a.0 ∙ ap (λ (t : List ℕ). key ++ t)
     (drop-drop (length key) i s ∙ r.0 ∙ ap (λ (v : ℕ). bits_of m v ++ (10 ∷ drop (suc m) l)) same)
@@ -176,8 +185,8 @@ row_was s i key m x k e =
     let far : k ≡ i + length (row_of key m x) = omega (arith, length_row key m x) in
     record { stands = rw far (stands_of s i (row_of key m x) (drop (suc m) l) split); small = rw same at r.1 }
 
-pub row_found_of : (key : List ℕ) (m x : ℕ) {s : List ℕ} {i k : ℕ} → x < 2 ^ m → Stands s i (row_of key m x) k → row_at s i key m ≡ Found x k
-row_found_of key m x {s} {i} {k} h r = row_found s i key m x (drop k s) h r.there ∙ ap (Found x) (sym r.next)
+pub row_found_of : (key : List ℕ) (m x : ℕ) {s : List ℕ} {i k : ℕ} → x < 2 ^ m → Stands s i (row_of key m x) k → row_at s i key m ≡ Some (x, k)
+row_found_of key m x {s} {i} {k} h r = row_found s i key m x (drop k s) h r.there ∙ found_at x (sym r.next)
 
 pub exact_row : (s key : List ℕ) (m : ℕ) → Exact s (λ i. row_at s i key m) (row_of key m) (λ x. x < 2 ^ m)
 exact_row s key m =

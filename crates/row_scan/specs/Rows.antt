@@ -1,9 +1,7 @@
--- What reading finds at a place where a key with a row of 0 and 1 is due: the mask and the index past the line, or a fault.
-use Rattle.std.specs.Prelude.{ℕ, zero, suc, ◌+◌, ◌-◌, ◌*◌, Bool, false, ◌&&◌, List, [], ◌∷◌, length, drop, eqb, leb}
+-- What reading finds at a place where a key with a row of 0 and 1 is due: the mask and the index past the line, or nothing, which is a fault.
+use Rattle.std.specs.Prelude.{ℕ, zero, suc, ◌+◌, ◌-◌, ◌*◌, Bool, false, ◌&&◌, List, [], ◌∷◌, length, drop, eqb, leb, Some}
 use Rattle.scan.specs.Stands.{begins}
-use Rattle.scan.specs.Lines.{gate}
-use Rattle.scan.specs.declared.Line.{Line}
-use Rattle.scan.specs.declared.Line.TheVariants.{Found}
+use Rattle.scan.specs.Lines.{Line, gate}
 
 -- l begins with m characters 0 or 1 and a line feed
 unfoldable pub is_row : ℕ → List ℕ → Bool
@@ -23,4 +21,4 @@ unfoldable pub row_at : List ℕ → ℕ → List ℕ → ℕ → Line
 unfolding gate
 row_at s i key m =
     let l = drop (i + length key) s in
-    gate (begins key (drop i s)) (gate (is_row m l) (Found (value_of m l) (i + length key + m + 1)))
+    gate (begins key (drop i s)) (gate (is_row m l) (Some (value_of m l, i + length key + m + 1)))

@@ -1,15 +1,18 @@
 -- The laws of texts that stand at a place: one after another, and taken apart again; and comparing byte by byte.
 use Prim.Native.Nat.{ℕ, ◌+◌, ◌-◌, ◌≤◌, ◌<◌}
 use native.Mathlib.Omega.{arith}
-use native.Mathlib.Numerals.{add-one}
-use mathlib.Core.Bool.{Bool, true, false, ◌&&◌}
-use mathlib.Core.Path.{◌≡◌, refl, sym, ap, ◌∙◌}
+use mathlib.Core.Bool.{Bool, true, ◌&&◌}
+use mathlib.Core.Path.{◌≡◌, refl, sym, ap, ap₂, ◌∙◌}
 use mathlib.Core.List.{List, [], ◌∷◌, ◌++◌, append_assoc}
-use lib.ListN.{length, length-append, drop, get_or, drop_of_length-le, length-drop}
-use lib.Seq.{drop-drop, drop-append_seam, drop-cons}
+use lib.ListN.{length, take, length-append, drop, length-drop}
+use lib.Seq.{drop-drop, drop-append_seam}
 use lib.Dec.{eqb}
 use borrow.Author.Tests.{eq-eqb, ne_eqb, eqb-true}
-use Rattle.lists.proofs.Truth.{and_left, and_right}
+use Rattle.lists.proofs.Truth.{and_left, and_right, same}
+use Rattle.std.specs.Prelude.{nat_eq, min}
+use Rattle.std.specs.List.{starts_with}
+use Rattle.std.proofs.lemmas.List.{drop_min}
+use Rattle.std.proofs.lemmas.Slice.{between_to_end}
 use Rattle.scan.specs.Stands.{Stands, begins}
 
 -- past a text that s has at i stands what follows it
@@ -47,24 +50,19 @@ begins_split (x ∷ t) (y ∷ l) e =
     let h : y ≡ x = eqb-true y x w.0 in
     rw h (ap (λ (r : List ℕ). x ∷ r) (begins_split t l w.1))
 
--- ---- each way that a step of comparing goes, at index i of t and j of s
-module _ (t s : List ℕ) (i j : ℕ) where
-  pub begins_none : length t ≤ i → begins (drop i t) (drop j s) ≡ true
-  unfolding begins
-  begins_none h = rw (drop_of_length-le t {i = i} h)
+-- the library's test says the same
+begins_is : (t l : List ℕ) → starts_with nat_eq l t ≡ begins t l
+unfolding begins
+begins_is [] l = refl
+begins_is (x ∷ t) [] = refl
+begins_is (x ∷ t) (y ∷ l) = ap₂ ◌&&◌ (turned x y) (begins_is t l)
+  where
+    turned : (x y : ℕ) → eqb x y ≡ eqb y x
+    turned x y = same x y (λ e. eq-eqb x y e ∙ sym (eq-eqb y x (sym e))) (λ n. ne_eqb x y n ∙ sym (ne_eqb y x (λ e. n (sym e))))
 
-  module _ (h : i < length t) where
-    pub begins_short : length s ≤ j → begins (drop i t) (drop j s) ≡ false
-    unfolding begins
-    begins_short k = rw (drop-cons t i 0 h, drop_of_length-le s {i = j} k)
-
-    pub begins_differ : j < length s → (get_or s j 0 ≡ get_or t i 0 → ⊥) → begins (drop i t) (drop j s) ≡ false
-    unfolding begins
-    begins_differ k n = rw (drop-cons t i 0 h, drop-cons s j 0 k) (simp (ne_eqb (get_or s j 0) (get_or t i 0) n))
-
-    pub begins_step : j < length s → get_or s j 0 ≡ get_or t i 0 → begins (drop i t) (drop j s) ≡ begins (drop (i + 1) t) (drop (j + 1) s)
-    unfolding begins
-    begins_step k e = rw (drop-cons t i 0 h, drop-cons s j 0 k) (simp (eq-eqb (get_or s j 0) (get_or t i 0) e, add-one))
+-- the rest of s from i on, which is nothing past the end
+pub starts_begins : (t s : List ℕ) (i : ℕ) {m : ℕ} → m ≡ min i (length s) → starts_with nat_eq (take (length s - m) (drop m s)) t ≡ begins t (drop i s)
+starts_begins t s i {m} e = rw (between_to_end s m (length s) (omega arith), e, drop_min i s) (begins_is t (drop i s))
 
 -- what begins with t is as long
 pub begins_long : (t s : List ℕ) (i : ℕ) → begins t (drop i s) ≡ true → length t ≤ length s - i

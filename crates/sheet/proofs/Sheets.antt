@@ -3,9 +3,7 @@ use mathlib.Core.Path.{◌≡◌, refl}
 use mathlib.Core.List.{List, [], ◌∷◌, ◌++◌, flat_map}
 use Prim.Native.Nat.{ℕ, ◌+◌, ◌-◌, ◌*◌, ◌^◌, ◌≤◌, ◌<◌}
 use native.Mathlib.Omega.{arith}
-use native.Mathlib.Numerals.{add-one}
-use lib.ListN.{length, length-append, get_or, drop, drop_of_length-le}
-use lib.Seq.{drop-cons}
+use lib.ListN.{length, length-append}
 use Rattle.clause.specs.declared.Hard.{Hard}
 use Rattle.clause.specs.declared.Hard.TheVariants.{Standard, Regular}
 use Rattle.clause.specs.declared.Side.{Side}
@@ -40,23 +38,7 @@ pub length_sheet : (h : Hard) (s : Side) (t : Table) → length (sheet_text h s 
 unfolding sheet_text
 length_sheet h s t = simp length-append
 
--- ---- a turn of a loop over a list, from index i on
-
-pub values_turn : (l : List ℕ) (i : ℕ) → i < length l → values_text (drop i l) ≡ line_of values_key (get_or l i 0) ++ values_text (drop (i + 1) l)
-unfolding values_text flat_map
-values_turn l i h = rw (drop-cons l i 0 h, add-one)
-
-pub values_end : (l : List ℕ) (i : ℕ) → length l ≤ i → values_text (drop i l) ≡ []
-unfolding values_text flat_map
-values_end l i h = rw (drop_of_length-le l {i = i} h)
-
-pub rows_turn : (m : ℕ) (l : List ℕ) (i : ℕ) → i < length l → rows_text m (drop i l) ≡ row_of allow_key m (get_or l i 0) ++ rows_text m (drop (i + 1) l)
-unfolding rows_text flat_map
-rows_turn m l i h = rw (drop-cons l i 0 h, add-one)
-
-pub rows_end : (m : ℕ) (l : List ℕ) (i : ℕ) → length l ≤ i → rows_text m (drop i l) ≡ []
-unfolding rows_text flat_map
-rows_end m l i h = rw (drop_of_length-le l {i = i} h)
+-- ---- a turn of the loop over the pairs
 
 pub pairs_more : (sizes : List ℕ) (p : Pair) (ps : List Pair) → pairs_text sizes (p ∷ ps) ≡ pair_text sizes p ++ pairs_text sizes ps
 unfolding pairs_text flat_map

@@ -9,26 +9,28 @@ ghost use Rattle.sheet.specs.Sheet.{head_text};
 
 use clause::{Hard, Side};
 
+#[tactic(auto, unfolding(crate::specs::Keys::hard_line_lem))]
 pub fn put_hard(out: &mut [u8], at: usize, hard: Hard) -> usize
     requires { at + length (hard_line_lem hard) < 2 ^ 64 }
     ensures { Wrote out.old at (hard_line_lem hard) result out.new }
 {
     match hard {
-        Hard::Standard => text_out::put_bytes(out, at, b"hard=standard\n"),
-        Hard::Regular => text_out::put_bytes(out, at, b"hard=regular\n"),
+        Hard::Standard => stores::put_all(out, at, b"hard=standard\n"),
+        Hard::Regular => stores::put_all(out, at, b"hard=regular\n"),
     }
 }
 
+#[tactic(auto, unfolding(crate::specs::Keys::side_line_lem))]
 pub fn put_side(out: &mut [u8], at: usize, side: Side) -> usize
     requires { at + length (side_line_lem side) < 2 ^ 64 }
     ensures { Wrote out.old at (side_line_lem side) result out.new }
 {
     match side {
-        Side::Direct => text_out::put_bytes(out, at, b"side=direct\n"),
-        Side::Support => text_out::put_bytes(out, at, b"side=support\n"),
-        Side::First => text_out::put_bytes(out, at, b"side=first\n"),
-        Side::Literals => text_out::put_bytes(out, at, b"side=literals\n"),
-        Side::Score => text_out::put_bytes(out, at, b"side=score\n"),
+        Side::Direct => stores::put_all(out, at, b"side=direct\n"),
+        Side::Support => stores::put_all(out, at, b"side=support\n"),
+        Side::First => stores::put_all(out, at, b"side=first\n"),
+        Side::Literals => stores::put_all(out, at, b"side=literals\n"),
+        Side::Score => stores::put_all(out, at, b"side=score\n"),
     }
 }
 
@@ -54,6 +56,7 @@ pub fn put_count(out: &mut [u8], at: usize, p: u32) -> usize
 }
 
 // A pair's boxes and weight, a line each.
+#[tactic(auto, using(crate::proofs::Sheets::length_head))]
 pub fn put_head(out: &mut [u8], at: usize, first: u32, second: u32, weight: u32) -> usize
     requires { at + length (head_text first second weight) < 2 ^ 64 }
     ensures { Wrote out.old at (head_text first second weight) result out.new }

@@ -15,10 +15,9 @@ use Rattle.clause.specs.declared.Hard.{Hard}
 use Rattle.clause.specs.declared.Side.{Side}
 use Rattle.table.specs.Table.{Pair, Table, boxes, pair_words, words_of, In, SoundPair, Sound}
 use Rattle.text_out.specs.Texts.{line_of}
-use Rattle.scan.specs.declared.Line.{Line}
-use Rattle.scan.specs.declared.Line.TheVariants.{Found, Fault}
+use Rattle.std.specs.Prelude.{Some, None}
 use Rattle.scan.specs.Stands.{Stands}
-use Rattle.scan.specs.Lines.{line_at}
+use Rattle.scan.specs.Lines.{Line, line_at}
 use Rattle.scan.proofs.Places.{stands_append, stands_split}
 use Rattle.scan.proofs.Lines.{exact_line}
 use Rattle.sheet.specs.Keys.{boxes_key, values_key, pairs_key, hard_line_lem, side_line_lem, hard_number, side_number}
@@ -109,13 +108,13 @@ never e = absurd (let o : ◌≡◌ {A = ℕ} 0 1 = cc in omega arith)
 record WordWas (x : Line) (f : ℕ → ℕ → Parsed) (p : Parsed) : Type 0 where
   word : ℕ
   place : ℕ
-  finds : x ≡ Found word place
+  finds : x ≡ Some (word, place)
   rest : f word place ≡ p
 
 word_was : (x : Line) (l : ℕ) (f : ℕ → ℕ → Parsed) {h d : ℕ} {ws : List ℕ} → on_word x l f ≡ sheet h d ws → WordWas x f (sheet h d ws)
 unfolding on_word
-word_was (Found v k) l f e = record { word = v; place = k; finds = refl; rest = e }
-word_was Fault l f e = never e
+word_was (Some (v, k)) l f e = record { word = v; place = k; finds = refl; rest = e }
+word_was None l f e = never e
 
 record SizesWere (s : List ℕ) (h d : ℕ) (g : Got) (p : Parsed) : Type 0 where
   sizes : List ℕ

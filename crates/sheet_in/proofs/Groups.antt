@@ -8,8 +8,8 @@ use lib.ListN.{length}
 use Rattle.lists.specs.Lists.{Each}
 use Rattle.table.specs.Table.{In}
 use Rattle.text_out.specs.Texts.{line_of}
-use Rattle.scan.specs.declared.Line.{Line}
-use Rattle.scan.specs.declared.Line.TheVariants.{Found, Fault}
+use Rattle.std.specs.Prelude.{Some, None}
+use Rattle.scan.specs.Lines.{Line}
 use Rattle.scan.specs.Stands.{Stands}
 use Rattle.scan.proofs.Places.{stands_append, stands_split}
 use Rattle.scan.proofs.Lines.{Exact, exact_line}
@@ -47,13 +47,13 @@ next_read (fault ws) f e = never e
 pub record LineRead (x : Line) (f : ℕ → ℕ → Got) (vs : List ℕ) (k : ℕ) : Type 0 where
   pub word : ℕ
   pub place : ℕ
-  pub finds : x ≡ Found word place
+  pub finds : x ≡ Some (word, place)
   pub rest : AfterRead (word ∷ []) (f word place) vs k
 
 pub line_read : (x : Line) (f : ℕ → ℕ → Got) {vs : List ℕ} {k : ℕ} → on_line x f ≡ read vs k → LineRead x f vs k
 unfolding on_line
-line_read (Found v j) f e = record { word = v; place = j; finds = refl; rest = after_read (v ∷ []) (f v j) e }
-line_read Fault f e = never e
+line_read (Some (v, j)) f e = record { word = v; place = j; finds = refl; rest = after_read (v ∷ []) (f v j) e }
+line_read None f e = never e
 
 -- ---- things that f reads from s, that t writes and w gives the words of, and of which P holds
 

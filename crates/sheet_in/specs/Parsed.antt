@@ -1,11 +1,9 @@
 -- A whole sheet: its two choices and its words, or the number, from 1, of its first faulty line. What reading it answers and leaves.
-use Rattle.std.specs.Prelude.{ℕ, ◌+◌, Bool, true, false, cond, List, [], ◌∷◌, ◌++◌, length, leb}
+use Rattle.std.specs.Prelude.{ℕ, ◌+◌, Bool, true, false, cond, List, [], ◌∷◌, ◌++◌, length, leb, Some, None, Result, Ok, Err}
 use Rattle.refusal.specs.declared.Refusal.TheVariants.{Room}
 use Rattle.refusal.specs.declared.Refusal.{Refusal}
 use Rattle.refusal.specs.Refusals.{Says, gives, refusal_says}
-use Rattle.scan.specs.declared.Line.{Line}
-use Rattle.scan.specs.declared.Line.TheVariants.{Found, Fault}
-use Rattle.scan.specs.Lines.{line_at}
+use Rattle.scan.specs.Lines.{Line, line_at}
 use Rattle.sheet.specs.Keys.{boxes_key, pairs_key}
 use Rattle.sheet.specs.Room.{filled}
 use Rattle.sheet_scan.specs.Found.{hard_at, side_at}
@@ -19,8 +17,8 @@ pub data Parsed : Type 0 where
 
 -- what follows line l, if that is found
 unfoldable pub on_word : Line → ℕ → (ℕ → ℕ → Parsed) → Parsed
-on_word (Found v k) l f = f v k
-on_word Fault l f = faulty l
+on_word (Some (v, k)) l f = f v k
+on_word None l f = faulty l
 
 -- after the last pair nothing stands; the last pair's last line is line n + 4 and as many more as the pairs have words
 unfoldable pub closed : ℕ → ℕ → ℕ → ℕ → List ℕ → Got → Parsed
@@ -44,12 +42,16 @@ parsed s =
 
 -- ---- for a lent table of some length
 
-abbrev pub fits : Bool → ℕ → ℕ → ℕ → ReadSheet
-fits true h d n = ReadSheet.Read h d n
-fits false h d n = ReadSheet.Refused (Room n)
+-- the two choices, and how many words the table has
+abbrev pub sheet_given : (hard side words : ℕ) → Result ReadSheet Refusal
+sheet_given h d n = Ok (record { hard = h; side = d; words = n })
 
-abbrev pub read_of : Parsed → ℕ → ReadSheet
-read_of (faulty l) long = ReadSheet.Refused (Refusal.Line l)
+abbrev pub fits : Bool → ℕ → ℕ → ℕ → Result ReadSheet Refusal
+fits true h d n = sheet_given h d n
+fits false h d n = Err (Room n)
+
+abbrev pub read_of : Parsed → ℕ → Result ReadSheet Refusal
+read_of (faulty l) long = Err (Refusal.Line l)
 read_of (sheet h d ws) long = fits (leb (length ws) long) h d (length ws)
 
 abbrev pub table_left : Parsed → List ℕ → List ℕ
@@ -57,6 +59,6 @@ table_left (faulty l) old = old
 table_left (sheet h d ws) old = filled old ws
 
 -- success gives the two choices and the number of words
-abbrev pub read_says : ReadSheet → Says
-read_says (ReadSheet.Refused f) = refusal_says f
-read_says (ReadSheet.Read hard side n) = gives (hard ∷ side ∷ n ∷ [])
+abbrev pub read_says : Result ReadSheet Refusal → Says
+read_says (Err f) = refusal_says f
+read_says (Ok r) = gives (r.hard ∷ r.side ∷ r.words ∷ [])

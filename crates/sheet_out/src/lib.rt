@@ -9,47 +9,39 @@ ghost use Rattle.reader.specs.Reader.{head_at_lem};
 ghost use Rattle.sheet.specs.Sheet.{values_text, rows_text, pair_text, pairs_text, body_text, sheet_text};
 ghost use Rattle.sheet_out.specs.Written.{of_table, sheet_of, written_of, text_left};
 
-use asked::Asked;
 use clause::Encoding;
 use reader::PairHead;
 use refusal::Refusal;
 use table::Counts;
 
-#[derive(Clone, Copy)]
-pub enum Written {
-    Text(usize),
-    Refused(Refusal),
-}
-
 // A line for each domain size.
+#[tactic(auto, using(text_out::proofs::Listed::listed_none, text_out::proofs::Listed::listed_room, text_out::proofs::Listed::listed_all), unfolding(sheet::specs::Sheet::values_text))]
 fn put_values(text: &mut [u8], from: usize, sizes: &[u32]) -> usize
     requires { from + length (values_text sizes.now) < 2 ^ 64 }
     ensures { Wrote text.old from (values_text sizes.now) result text.new }
 {
     let mut at = from;
-    let mut i = 0;
-    while i < sizes.len() {
-        at = sheet::put_size(text, at, sizes[i]);
-        i += 1;
+    for m in sizes {
+        at = sheet::put_size(text, at, *m);
     }
     at
 }
 
 // A line for each mask, with a character for each of `m` values.
+#[tactic(auto, using(text_out::proofs::Listed::listed_none, text_out::proofs::Listed::listed_room, text_out::proofs::Listed::listed_all), unfolding(sheet::specs::Sheet::rows_text))]
 fn put_rows(text: &mut [u8], from: usize, m: u32, masks: &[u32]) -> usize
     requires { from + length (rows_text m masks.now) < 2 ^ 64 }
     ensures { Wrote text.old from (rows_text m masks.now) result text.new }
 {
     let mut at = from;
-    let mut i = 0;
-    while i < masks.len() {
-        at = sheet::put_allow(text, at, m, masks[i]);
-        i += 1;
+    for mask in masks {
+        at = sheet::put_allow(text, at, m, *mask);
     }
     at
 }
 
 // The lines of the pair at the cursor.
+#[tactic(auto, using(crate::proofs::Parts::head_next, crate::proofs::Parts::pair_long))]
 fn put_pair(text: &mut [u8], at: usize, words: &[u32], cursor: usize, pair: PairHead) -> usize
     requires { PairStands words.now cursor
         × (pair ≡ head_at_lem words.now cursor)
@@ -64,23 +56,23 @@ fn put_pair(text: &mut [u8], at: usize, words: &[u32], cursor: usize, pair: Pair
 }
 
 // The lines of the `p` pairs from the cursor on.
+#[tactic(auto, using(crate::proofs::Parts::paired_none, crate::proofs::Parts::paired_stands, crate::proofs::Parts::paired_all))]
 fn put_pairs(text: &mut [u8], from: usize, words: &[u32], first: usize, p: usize) -> usize
     requires { Ahead words.now p first × (from + length (pairs_text (table_of words.now).sizes (pairs_at words.now p first)) < 2 ^ 64) }
     ensures { Wrote text.old from (pairs_text (table_of words.now).sizes (pairs_at words.now p first)) result text.new }
 {
     let mut at = from;
     let mut cursor = first;
-    let mut k = 0;
-    while k < p {
+    for _ in 0..p {
         let pair = reader::pair_at(words, cursor);
         at = put_pair(text, at, words, cursor, pair);
         cursor = pair.next;
-        k += 1;
     }
     at
 }
 
 // What follows the lines of the two choices.
+#[tactic(auto, using(crate::proofs::Parts::begun, crate::proofs::Parts::body_long))]
 fn put_body(text: &mut [u8], at: usize, words: &[u32], counts: Counts) -> usize
     requires { Counted words.now counts × (at + length (body_text (table_of words.now)) < 2 ^ 64) }
     ensures { Wrote text.old at (body_text (table_of words.now)) result text.new }
@@ -106,7 +98,13 @@ fn put_sheet(text: &mut [u8], words: &[u32], counts: Counts, encoding: Encoding)
 }
 
 // The answer over an accepted table.
-fn write_table(words: &[u32], counts: Counts, encoding: Encoding, text: &mut [u8]) -> Written
+#[tactic(auto, using(crate::proofs::Answers::too_short, crate::proofs::Answers::long_enough))]
+fn write_table(
+    words: &[u32],
+    counts: Counts,
+    encoding: Encoding,
+    text: &mut [u8],
+) -> Result<usize, Refusal>
     requires { Counted words.now counts }
     ensures { (result ≡ written_of (of_table encoding (table_of words.now)) (length text.old))
         × (text.new ≡ text_left (of_table encoding (table_of words.now)) text.old) }
@@ -114,19 +112,18 @@ fn write_table(words: &[u32], counts: Counts, encoding: Encoding, text: &mut [u8
     let mut none = [0u8; 1];
     let needed = put_sheet(&mut none, words, counts, encoding);
     if text.len() < needed {
-        return Written::Refused(Refusal::Room(needed));
+        return Err(Refusal::Room(needed));
     }
     put_sheet(text, words, counts, encoding);
-    Written::Text(needed)
+    Ok(needed)
 }
 
 // The sheet of a table with its hard part's and its side's number: 8, then the table's 1 to 7, then 9; a refusal writes nothing.
-pub fn write_sheet(words: &[u32], hard: u32, side: u32, text: &mut [u8]) -> Written
+#[tactic(auto, using(asked::proofs::Answers::asked_refused, asked::proofs::Answers::asked_ready), unfolding(crate::specs::Written::sheet_of))]
+pub fn write_sheet(words: &[u32], hard: u32, side: u32, text: &mut [u8]) -> Result<usize, Refusal>
     ensures { (result ≡ written_of (sheet_of words.now hard side) (length text.old))
         × (text.new ≡ text_left (sheet_of words.now hard side) text.old) }
 {
-    match asked::ask(words, hard, side) {
-        Asked::Refused(f) => Written::Refused(f),
-        Asked::Ready(e, counts) => write_table(words, counts, e, text),
-    }
+    let (encoding, counts) = asked::ask(words, hard, side)?;
+    write_table(words, counts, encoding, text)
 }

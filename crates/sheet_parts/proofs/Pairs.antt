@@ -6,7 +6,7 @@ use native.Mathlib.Omega.{arith}
 use lib.ListN.{length, set}
 use Rattle.lists.specs.Lists.{nth}
 use Rattle.table.specs.Table.{In}
-use Rattle.scan.specs.declared.Line.TheVariants.{Found, Fault}
+use Rattle.std.specs.Prelude.{Some, Err, ok_or}
 use Rattle.scan.specs.Lines.{line_at}
 use Rattle.row_scan.specs.Rows.{row_at}
 use Rattle.scan.proofs.Lines.{exact_line, exact_moves}
@@ -14,9 +14,7 @@ use Rattle.row_scan.proofs.Rows.{exact_row}
 use Rattle.sheet.specs.Keys.{values_key, first_key, weight_key, allow_key}
 use Rattle.sheet_scan.specs.Found.{second_at}
 use Rattle.sheet_scan.proofs.Choices.{exact_second}
-use Rattle.sheet_parts.specs.declared.Step.{Step}
-use Rattle.sheet_parts.specs.declared.Step.TheVariants.{Bad}
-use Rattle.sheet_parts.specs.Reading.{rows_at, pair_at, pairs_at, Filed, values_at}
+use Rattle.sheet_parts.specs.Reading.{Step, rows_at, pair_at, pairs_at, Filed, values_at}
 use Rattle.sheet_parts.proofs.Steps.{filed_fault, filed_line, Paced, Moves, paced_line, paced_one, paced_many}
 
 pub value_moves : (s : List ℕ) → Moves (length s) (λ i. line_at s i values_key 1 16)
@@ -26,21 +24,21 @@ pub row_moves : (s : List ℕ) (m : ℕ) → Moves (length s) (λ i. row_at s i 
 row_moves s m = exact_moves (exact_row s allow_key m)
 
 module _ (s sizes : List ℕ) (i w : ℕ) (old : List ℕ) where
-  pub no_first : line_at s i first_key 1 (length sizes) ≡ Fault → Filed (pair_at s sizes i) w old (Bad w) old
+  pub no_first : {u : ℕ} → Err u ≡ ok_or (line_at s i first_key 1 (length sizes)) w → Filed (pair_at s sizes i) w old (Err u) old
   unfolding pair_at
-  no_first e = filed_fault _ _ w old e
+  no_first e = filed_fault _ _ e
 
-  module _ {a j : ℕ} {one : List ℕ} (p : line_at s i first_key 1 (length sizes) ≡ Found a j) (m : one ≡ set old w a) where
-    pub no_second : second_at s (length sizes) a j ≡ Fault → Filed (pair_at s sizes i) w old (Bad (w + 1)) one
+  module _ {a j : ℕ} {one : List ℕ} (p : line_at s i first_key 1 (length sizes) ≡ Some (a, j)) (m : one ≡ set old w a) where
+    pub no_second : {u : ℕ} → Err u ≡ ok_or (second_at s (length sizes) a j) (w + 1) → Filed (pair_at s sizes i) w old (Err u) one
     unfolding pair_at
-    no_second e = filed_line _ _ p m (filed_fault _ _ (w + 1) one e)
+    no_second e = filed_line _ _ p m (filed_fault _ _ e)
 
-    module _ {b k : ℕ} {two : List ℕ} (q : second_at s (length sizes) a j ≡ Found b k) (m' : two ≡ set one (w + 1) b) where
-      pub no_weight : line_at s k weight_key 1 1000000 ≡ Fault → Filed (pair_at s sizes i) w old (Bad (w + 1 + 1)) two
+    module _ {b k : ℕ} {two : List ℕ} (q : second_at s (length sizes) a j ≡ Some (b, k)) (m' : two ≡ set one (w + 1) b) where
+      pub no_weight : {u : ℕ} → Err u ≡ ok_or (line_at s k weight_key 1 1000000) (w + 1 + 1) → Filed (pair_at s sizes i) w old (Err u) two
       unfolding pair_at
-      no_weight e = filed_line _ _ p m (filed_line _ _ q m' (filed_fault _ _ (w + 1 + 1) two e))
+      no_weight e = filed_line _ _ p m (filed_line _ _ q m' (filed_fault _ _ e))
 
-      pub pair_rows : {x l : ℕ} {three new : List ℕ} {r : Step} → line_at s k weight_key 1 1000000 ≡ Found x l → three ≡ set two (w + 1 + 1) x
+      pub pair_rows : {x l : ℕ} {three new : List ℕ} {r : Step} → line_at s k weight_key 1 1000000 ≡ Some (x, l) → three ≡ set two (w + 1 + 1) x
           → Filed (rows_at s (nth sizes b) (nth sizes a) l) (w + 1 + 1 + 1) three r new → Filed (pair_at s sizes i) w old r new
       unfolding pair_at
       pair_rows e n f = filed_line _ _ p m (filed_line _ _ q m' (filed_line _ _ e n f))
@@ -53,8 +51,8 @@ pub record Heads (s sizes : List ℕ) (i a b l : ℕ) : Type 0 where
   pub pace : i + 3 ≤ l
   pub inside : l ≤ length s
 
-pub heads : (s sizes : List ℕ) (i : ℕ) {a j b k x l : ℕ} → line_at s i first_key 1 (length sizes) ≡ Found a j → second_at s (length sizes) a j ≡ Found b k
-    → line_at s k weight_key 1 1000000 ≡ Found x l → Heads s sizes i a b l
+pub heads : (s sizes : List ℕ) (i : ℕ) {a j b k x l : ℕ} → line_at s i first_key 1 (length sizes) ≡ Some (a, j) → second_at s (length sizes) a j ≡ Some (b, k)
+    → line_at s k weight_key 1 1000000 ≡ Some (x, l) → Heads s sizes i a b l
 heads s sizes i {a} {j} {b} {k} {x} {l} p q e =
     let one = exact_moves (exact_line s first_key 1 (length sizes)) a i j p in
     let two = exact_moves (exact_second s (length sizes) a) b j k q in

@@ -1,16 +1,12 @@
 -- What reading lines finds from a place on: the words of the lines, one a line, and the index past them; or the words before a faulty line.
-use Rattle.std.specs.Prelude.{ℕ, zero, suc, ◌+◌, ◌≤◌, ◌≡◌, List, [], ◌∷◌, ◌++◌, length}
+use Rattle.std.specs.Prelude.{ℕ, zero, suc, ◌+◌, ◌≤◌, ◌≡◌, List, [], ◌∷◌, ◌++◌, length, Some, None, Result, Ok, Err}
 use Rattle.std.proofs.lemmas.List.Edits.{sets}
 use Rattle.lists.specs.Lists.{nth, Each}
 use Rattle.table.specs.Table.{In}
-use Rattle.scan.specs.declared.Line.{Line}
-use Rattle.scan.specs.declared.Line.TheVariants.{Found, Fault}
-use Rattle.scan.specs.Lines.{line_at}
+use Rattle.scan.specs.Lines.{Line, line_at}
 use Rattle.row_scan.specs.Rows.{row_at}
 use Rattle.sheet.specs.Keys.{values_key, first_key, weight_key, allow_key}
 use Rattle.sheet_scan.specs.Found.{second_at}
-use Rattle.sheet_parts.specs.declared.Step.{Step}
-use Rattle.sheet_parts.specs.declared.Step.TheVariants.{Next, Bad}
 
 pub data Got : Type 0 where
   read : List ℕ → ℕ → Got
@@ -32,8 +28,8 @@ next (fault ws) f = fault ws
 
 -- a line, and what follows it; what that is may depend on its word
 unfoldable pub on_line : Line → (ℕ → ℕ → Got) → Got
-on_line (Found v k) f = after (v ∷ []) (f v k)
-on_line Fault f = fault []
+on_line (Some (v, k)) f = after (v ∷ []) (f v k)
+on_line None f = fault []
 
 unfoldable pub one : Line → Got
 one x = on_line x (λ v k. read [] k)
@@ -72,9 +68,13 @@ pairs_at s sizes p i = many (pair_at s sizes) p i
 
 -- ---- what a function that reads lines and stores their words answers and leaves
 
+-- where reading goes on, in the text and in the words; or the word whose line is faulty
+abbrev pub Step : Type 0
+Step = Result (ℕ × ℕ) ℕ
+
 abbrev pub step_of : ℕ → Got → Step
-step_of from (read ws k) = Next k (from + length ws)
-step_of from (fault ws) = Bad (from + length ws)
+step_of from (read ws k) = Ok (k, from + length ws)
+step_of from (fault ws) = Err (from + length ws)
 
 pub record Filed (g : Got) (from : ℕ) (old : List ℕ) (r : Step) (new : List ℕ) : Type 0 where
   pub step : r ≡ step_of from g

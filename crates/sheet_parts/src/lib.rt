@@ -8,34 +8,30 @@ ghost use Rattle.lists.specs.Lists.{nth};
 ghost use Rattle.table.specs.Table.{In};
 ghost use Rattle.sheet_parts.specs.Reading.{words, values_at, rows_at, pair_at, pairs_at, Filed, Sized};
 
-use scan::Line;
-
-// Where reading goes on, in the text and in the words; or the word whose line is faulty.
-#[derive(Clone, Copy)]
-pub enum Step {
-    Next(usize, usize),
-    Bad(usize),
-}
+// What reads lines answers where reading goes on, in the text and in the words; or the word whose line is faulty.
 
 // The `n` lines of domain sizes, into `sizes` from its start.
-pub fn read_values(text: &[u8], from: usize, n: usize, sizes: &mut [u32]) -> Step
+#[tactic(auto, using(crate::proofs::Steps::rest_all))]
+pub fn read_values(
+    text: &[u8],
+    from: usize,
+    n: usize,
+    sizes: &mut [u32],
+) -> Result<(usize, usize), usize>
     requires { from ≤ length text.now }
     ensures { Filed (values_at text.now n from) 0 sizes.old result sizes.new }
 {
     let mut at = from;
-    let mut k = 0;
-    while k < n {
-        let Line::Found(v, next) = sheet_scan::values_line(text, at) else {
-            return Step::Bad(k);
-        };
-        stores::put_word(sizes, k, v);
+    for k in 0..n {
+        let (v, next) = sheet_scan::values_line(text, at).ok_or(k)?;
+        stores::put(sizes, k, v);
         at = next;
-        k += 1;
     }
-    Step::Next(at, k)
+    Ok((at, n))
 }
 
 // The `count` lines of masks of `m` values, into the table from `first` on.
+#[tactic(auto, using(crate::proofs::Steps::rest_all))]
 fn read_rows(
     text: &[u8],
     from: usize,
@@ -43,23 +39,18 @@ fn read_rows(
     count: usize,
     table: &mut [u32],
     first: usize,
-) -> Step
+) -> Result<(usize, usize), usize>
     requires { (m ≤ 32) × (from ≤ length text.now) × (first ≤ from) }
     ensures { Filed (rows_at text.now m count from) first table.old result table.new }
 {
     let mut at = from;
     let mut word = first;
-    let mut k = 0;
-    while k < count {
-        let Line::Found(v, next) = sheet_scan::allow_line(text, at, m) else {
-            return Step::Bad(word);
-        };
-        stores::put_word(table, word, v);
+    for _ in 0..count {
+        let (v, next) = sheet_scan::allow_line(text, at, m).ok_or(word)?;
+        word = stores::put(table, word, v);
         at = next;
-        word += 1;
-        k += 1;
     }
-    Step::Next(at, word)
+    Ok((at, word))
 }
 
 // The number of values of box `b`.
@@ -71,25 +62,26 @@ fn size_of(sizes: &[u32], b: u32) -> usize
 }
 
 // The lines of a pair, into the table from `word` on.
-fn read_pair(text: &[u8], at: usize, sizes: &[u32], table: &mut [u32], word: usize) -> Step
+#[tactic(auto, using(crate::proofs::Pairs::heads, sheet::proofs::Sheets::size_most))]
+fn read_pair(
+    text: &[u8],
+    at: usize,
+    sizes: &[u32],
+    table: &mut [u32],
+    word: usize,
+) -> Result<(usize, usize), usize>
     requires { Sized sizes.now × (at ≤ length text.now) × (word ≤ at) }
     ensures { Filed (pair_at text.now sizes.now at) word table.old result table.new }
 {
     let n = sizes.len() as u32;
-    let Line::Found(first, a) = sheet_scan::first_line(text, at, n) else {
-        return Step::Bad(word);
-    };
-    stores::put_word(table, word, first);
+    let (first, a) = sheet_scan::first_line(text, at, n).ok_or(word)?;
+    stores::put(table, word, first);
     let one = word + 1;
-    let Line::Found(second, b) = sheet_scan::second_line(text, a, n, first) else {
-        return Step::Bad(one);
-    };
-    stores::put_word(table, one, second);
+    let (second, b) = sheet_scan::second_line(text, a, n, first).ok_or(one)?;
+    stores::put(table, one, second);
     let two = one + 1;
-    let Line::Found(weight, rows) = sheet_scan::weight_line(text, b) else {
-        return Step::Bad(two);
-    };
-    stores::put_word(table, two, weight);
+    let (weight, rows) = sheet_scan::weight_line(text, b).ok_or(two)?;
+    stores::put(table, two, weight);
     let m = size_of(sizes, second);
     let count = size_of(sizes, first);
     let masks = two + 1;
@@ -97,6 +89,7 @@ fn read_pair(text: &[u8], at: usize, sizes: &[u32], table: &mut [u32], word: usi
 }
 
 // The lines of `p` pairs, into the table from `first` on.
+#[tactic(auto, using(crate::proofs::Steps::rest_all))]
 pub fn read_pairs(
     text: &[u8],
     from: usize,
@@ -104,26 +97,16 @@ pub fn read_pairs(
     p: u32,
     table: &mut [u32],
     first: usize,
-) -> Step
+) -> Result<(usize, usize), usize>
     requires { Sized sizes.now × (from ≤ length text.now) × (first ≤ from) }
     ensures { Filed (pairs_at text.now sizes.now p from) first table.old result table.new }
 {
     let mut at = from;
     let mut word = first;
-    let mut k = 0;
-    while k < p {
-        match read_pair(text, at, sizes, table, word) {
-            Step::Next(next, w) => {
-                at = next;
-                word = w;
-            }
-            Step::Bad(w) => {
-                return Step::Bad(w);
-            }
-        }
-        k += 1;
+    for _ in 0..p {
+        (at, word) = read_pair(text, at, sizes, table, word)?;
     }
-    Step::Next(at, word)
+    Ok((at, word))
 }
 
 // All the words of a sheet that was read to its end: the counts, the sizes, the pairs.
@@ -134,8 +117,8 @@ pub fn fill(text: &[u8], from: usize, sizes: &[u32], p: u32, table: &mut [u32])
         (length sizes.now ∷ p ∷ (sizes.now ++ words (pairs_at text.now sizes.now p from))) }
 {
     let n = sizes.len() as u32;
-    stores::put_word(table, 0, n);
-    stores::put_word(table, 1, p);
-    let first = stores::put_words(table, 2, sizes);
-    read_pairs(text, from, sizes, p, table, first);
+    stores::put(table, 0, n);
+    stores::put(table, 1, p);
+    let first = stores::put_all(table, 2, sizes);
+    let _ = read_pairs(text, from, sizes, p, table, first);
 }

@@ -9,6 +9,7 @@ ghost use Rattle.sight.specs.Sight.{seen_of, turned_of};
 use ends::Seen;
 
 // As the first box sees the pair at the cursor.
+#[tactic(auto, using(crate::proofs::Sight::head_first, crate::proofs::Sight::head_second, table::proofs::Tables::table_size))]
 pub fn from_first(words: &[u32], at: usize) -> Seen
     requires { Accepted words.now × PairStands words.now at }
     ensures { result ≡ seen_of words.now at one }

@@ -10,7 +10,6 @@ ghost use Rattle.clause.specs.Soft.{soft};
 ghost use Rattle.soft.specs.Scratch.{pair_scratch, scratch_with};
 
 use clause::Side;
-use support::Tail;
 
 // The clauses of the pair at `at`, from `cursor` on; `switch` is the number of its c_k. Only the sides that choose use the scratch slices.
 pub fn put_pair(
@@ -38,7 +37,7 @@ pub fn put_pair(
     match side {
         Side::Direct => direct::put_direct(words, a, out, cursor),
         Side::Support => both_ends::put_both(words, a, b, switch, out, cursor),
-        Side::First => support::put_support(words, a, Tail::Bare, out, cursor),
+        Side::First => support::put_support(words, a, None, out, cursor),
         Side::Literals => both_ends::put_chosen(words, a, b, false, first, second, out, cursor),
         Side::Score => both_ends::put_chosen(words, a, b, true, first, second, out, cursor),
     }

@@ -5,8 +5,10 @@ use Prim.Native.Nat.{ℕ, suc, ◌+◌, ◌-◌, ◌≤◌, ◌<◌}
 use native.Mathlib.Numerals.{add-one}
 use native.Mathlib.Omega.{arith}
 use lib.ListN.{length, length-append}
-use lib.IntN.{pos}
+use lib.IntN.{ℤ, pos}
 use Rattle.lists.specs.Lists.{count}
+use Rattle.lists.specs.Stores.{Wrote, Owes}
+use Rattle.lists.proofs.Stores.{owes_room, owes_part, owes_none}
 use Rattle.lists.proofs.Runs.{run_turn, run_end}
 use Rattle.clause.specs.Clause.{plus, Clause, closed, entries_of}
 use Rattle.clause.proofs.Lengths.{entries_of_append}
@@ -33,19 +35,42 @@ module _ (f : ℕ → Clause) (n j : ℕ) where
   unfolding entries_of flat_map
   text_turn h = rw (run_turn n j h)
 
-  pub text_end : n ≤ j → entries_of (map f (count j (n - j))) ≡ []
+  text_end : n ≤ j → entries_of (map f (count j (n - j))) ≡ []
   unfolding entries_of flat_map
   text_end h = rw (run_end n j h)
 
+  -- a turn has room, leaves the numbers after j owed, and after the last one all is written
+  module _ {old all out : List ℤ} {start at : ℕ} (o : Owes old start all out at (entries_of (map f (count j (n - j))))) where
+    pub text_room : {k : ℕ} → j < n → start + length all < k → at + length (closed (f j)) < k
+    text_room h room = owes_room (closed (f j)) _ o (text_turn h) room
+
+    pub text_part : {new : List ℤ} {r : ℕ} → j < n → Wrote out at (closed (f j)) r new
+        → Owes old start all new r (entries_of (map f (count (j + 1) (n - (j + 1)))))
+    text_part h w = owes_part o (text_turn h) w
+
+    pub text_none : n ≤ j → Wrote old start all at out
+    text_none h = owes_none o (text_end h)
+
 -- several clauses a turn
 module _ (g : ℕ → List Clause) (n j : ℕ) where
-  pub texts_turn : j < n → entries_of (flat_map g (count j (n - j))) ≡ entries_of (g j) ++ entries_of (flat_map g (count (j + 1) (n - (j + 1))))
+  texts_turn : j < n → entries_of (flat_map g (count j (n - j))) ≡ entries_of (g j) ++ entries_of (flat_map g (count (j + 1) (n - (j + 1))))
   unfolding flat_map
   texts_turn h = rw (run_turn n j h) (entries_of_append (g j) _)
 
-  pub texts_end : n ≤ j → entries_of (flat_map g (count j (n - j))) ≡ []
+  texts_end : n ≤ j → entries_of (flat_map g (count j (n - j))) ≡ []
   unfolding entries_of flat_map
   texts_end h = rw (run_end n j h)
+
+  module _ {old all out : List ℤ} {start at : ℕ} (o : Owes old start all out at (entries_of (flat_map g (count j (n - j))))) where
+    pub texts_room : {k : ℕ} → j < n → start + length all < k → at + length (entries_of (g j)) < k
+    texts_room h room = owes_room (entries_of (g j)) _ o (texts_turn h) room
+
+    pub texts_part : {new : List ℤ} {r : ℕ} → j < n → Wrote out at (entries_of (g j)) r new
+        → Owes old start all new r (entries_of (flat_map g (count (j + 1) (n - (j + 1)))))
+    texts_part h w = owes_part o (texts_turn h) w
+
+    pub texts_none : n ≤ j → Wrote old start all at out
+    texts_none h = owes_none o (texts_end h)
 
 -- ---- a standard box, piece by piece
 

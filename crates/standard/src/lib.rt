@@ -26,6 +26,7 @@ pub fn put_literal(literal: Literal, out: &mut [i32], at: usize) -> usize
     }
 }
 
+#[tactic(auto, using(lists::proofs::Stores::wrote_append))]
 pub fn put_two(first: Literal, second: Literal, out: &mut [i32], at: usize) -> usize
     requires { (number_of first < 2 ^ 31) × (number_of second < 2 ^ 31) × (at + 3 < 2 ^ 64) }
     ensures { Wrote out.old at (closed (lit_of first ∷ lit_of second ∷ [])) result out.new }
@@ -41,44 +42,41 @@ pub fn put_one_of(v: u32, m: u32, out: &mut [i32], from: usize) -> usize
     ensures { Wrote out.old from (closed (one_of (value_from v) m)) result out.new }
 {
     let mut at = from;
-    let mut j = 1;
-    while j <= m {
+    for j in 1..m + 1 {
         at = puts::put_plus(out, at, v + j);
-        j += 1;
     }
     puts::put_close(out, at)
 }
 
 // Not value j and a higher one at once.
+#[tactic(auto, using(crate::proofs::Texts::text_none, crate::proofs::Texts::run_start))]
 fn put_apart_from(v: u32, j: u32, m: u32, out: &mut [i32], from: usize) -> usize
     requires { (j ≤ m) × (m ≤ 16) × (v < 2 ^ 20) × (from + length (entries_of (apart_from (value_from v) m j)) < 2 ^ 64) }
     ensures { Wrote out.old from (entries_of (apart_from (value_from v) m j)) result out.new }
 {
     let value = v + j;
     let mut at = from;
-    let mut k = j + 1;
-    while k <= m {
+    for k in j + 1..m + 1 {
         let higher = v + k;
         at = put_two(Literal::Minus(value), Literal::Minus(higher), out, at);
-        k += 1;
     }
     at
 }
 
 // No two values at once.
+#[tactic(auto, using(crate::proofs::Texts::texts_none))]
 fn put_apart(v: u32, m: u32, out: &mut [i32], from: usize) -> usize
     requires { (m ≤ 16) × (v < 2 ^ 20) × (from + length (entries_of (apart (value_from v) m)) < 2 ^ 64) }
     ensures { Wrote out.old from (entries_of (apart (value_from v) m)) result out.new }
 {
     let mut at = from;
-    let mut j = 1;
-    while j <= m {
+    for j in 1..m + 1 {
         at = put_apart_from(v, j, m, out, at);
-        j += 1;
     }
     at
 }
 
+#[tactic(auto, using(lists::proofs::Stores::wrote_append, crate::proofs::Texts::standard_text, crate::proofs::Texts::standard_size))]
 pub fn put_standard(v: u32, m: u32, out: &mut [i32], at: usize) -> usize
     requires { (m ≤ 16) × (v < 2 ^ 20) × (at + length (entries_of (standard_box (value_from v) m)) < 2 ^ 64) }
     ensures { Wrote out.old at (entries_of (standard_box (value_from v) m)) result out.new }

@@ -10,16 +10,10 @@ ghost use Rattle.ends.specs.Seen.{end_of, SeenWell};
 ghost use Rattle.support.specs.Tails.{supporter, tail_of, TailFits};
 
 use ends::Seen;
-
-// What ends each clause: nothing, a variable or its negation.
-#[derive(Clone, Copy)]
-pub enum Tail {
-    Bare,
-    Plus(u32),
-    Minus(u32),
-}
+use standard::Literal;
 
 // Value `i` of the other box, if it supports value `j`.
+#[tactic(auto, using(crate::proofs::Support::supporter_yes, crate::proofs::Support::supporter_no, lists::proofs::Stores::wrote_none, ends::proofs::Ends::theirs_few))]
 fn put_supporter(words: &[u32], seen: Seen, j: u32, i: u32, out: &mut [i32], at: usize) -> usize
     requires { SeenWell words.now seen × In 1 seen.mine j × In 1 seen.theirs i
         × (at + length (map coded (supporter (end_of words.now seen) j i)) < 2 ^ 64) }
@@ -33,38 +27,37 @@ fn put_supporter(words: &[u32], seen: Seen, j: u32, i: u32, out: &mut [i32], at:
 }
 
 // The values that support value `j`, rising.
+#[tactic(auto, using(ends::proofs::Ends::theirs_few))]
 fn put_supports(words: &[u32], seen: Seen, j: u32, out: &mut [i32], from: usize) -> usize
     requires { SeenWell words.now seen × In 1 seen.mine j
         × (from + length (map coded (supports (end_of words.now seen) j)) < 2 ^ 64) }
     ensures { Wrote out.old from (map coded (supports (end_of words.now seen) j)) result out.new }
 {
-    let theirs = seen.theirs;
     let mut at = from;
-    let mut i = 1;
-    while i <= theirs {
+    for i in 1..seen.theirs + 1 {
         at = put_supporter(words, seen, j, i, out, at);
-        i += 1;
     }
     at
 }
 
-fn put_tail(tail: Tail, out: &mut [i32], at: usize) -> usize
+#[tactic(auto, using(lists::proofs::Stores::wrote_none))]
+// What ends each clause: a literal, or nothing.
+fn put_tail(tail: Option<Literal>, out: &mut [i32], at: usize) -> usize
     requires { TailFits tail × (at + length (map coded (tail_of tail)) < 2 ^ 64) }
     ensures { Wrote out.old at (map coded (tail_of tail)) result out.new }
 {
     match tail {
-        Tail::Bare => at,
-        Tail::Plus(v) => puts::put_plus(out, at, v),
-        Tail::Minus(v) => puts::put_minus(out, at, v),
+        None => at,
+        Some(literal) => standard::put_literal(literal, out, at),
     }
 }
 
 // Value `j`'s clause. It has none where all values of the other box support it: how many these are is the other box's to say.
-#[tactic(auto, using(crate::proofs::Support::full_text))]
+#[tactic(auto, using(crate::proofs::Support::full_text, ends::proofs::Ends::mine_few))]
 fn put_support_value(
     words: &[u32],
     seen: Seen,
-    tail: Tail,
+    tail: Option<Literal>,
     j: u32,
     out: &mut [i32],
     at: usize,
@@ -85,17 +78,21 @@ fn put_support_value(
 }
 
 // The clauses of all values of the box that sees the pair, rising, each ended by `tail`.
-pub fn put_support(words: &[u32], seen: Seen, tail: Tail, out: &mut [i32], from: usize) -> usize
+#[tactic(auto, using(ends::proofs::Ends::mine_few, ends::proofs::Texts::turn_none))]
+pub fn put_support(
+    words: &[u32],
+    seen: Seen,
+    tail: Option<Literal>,
+    out: &mut [i32],
+    from: usize,
+) -> usize
     requires { SeenWell words.now seen × TailFits tail
         × (from + length (entries_of (support_clauses (end_of words.now seen) (tail_of tail))) < 2 ^ 64) }
     ensures { Wrote out.old from (entries_of (support_clauses (end_of words.now seen) (tail_of tail))) result out.new }
 {
-    let mine = seen.mine;
     let mut at = from;
-    let mut j = 1;
-    while j <= mine {
+    for j in 1..seen.mine + 1 {
         at = put_support_value(words, seen, tail, j, out, at);
-        j += 1;
     }
     at
 }

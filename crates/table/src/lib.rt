@@ -4,20 +4,11 @@
 ghost use Rattle.std.specs.Prelude.{◌≡◌};
 ghost use Rattle.table.specs.Words.{size_at, BoxStands};
 
-use refusal::Refusal;
-
 // How many boxes and pairs a table has.
 #[derive(Clone, Copy)]
 pub struct Counts {
     pub boxes: usize,
     pub pairs: usize,
-}
-
-// What the check of words answers.
-#[derive(Clone, Copy)]
-pub enum Checked {
-    Accepted(Counts),
-    Refused(Refusal),
 }
 
 // The domain size of a box.

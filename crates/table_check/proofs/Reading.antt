@@ -1,4 +1,5 @@
 -- An answer of a part of the check, taken apart: which case it is says whether there was a fault, and which; and the whole answer from its parts.
+use Rattle.std.specs.Prelude.{Result, Ok, Err}
 use mathlib.Core.Path.{◌≡◌, refl, sym, ◌∙◌, subst}
 use mathlib.Core.Option.{Option, none, some}
 use mathlib.Core.List.{List}
@@ -6,44 +7,35 @@ use Prim.Native.Nat.{ℕ}
 use lib.ListN.{get_or}
 use Rattle.refusal.specs.declared.Refusal.{Refusal}
 use Rattle.refusal.specs.declared.Refusal.TheVariants.{Count}
-use Rattle.table.specs.declared.Checked.{Checked}
 use Rattle.table.specs.Words.{box_count, pair_count, range_fault, body_fault, first_fault_lem, judged}
 use Rattle.table.specs.Answers.{checked_of}
 use Rattle.table.proofs.Words.{Ranged, range_none, partners_none, box_stands, table_counts, end_turn, end_last}
 use Rattle.lists.proofs.Firsts.{first_end, first_next, first_found}
-use Rattle.table_check.specs.declared.Got.{Got}
-use Rattle.table_check.specs.declared.Got.TheVariants.{Value, Wrong}
-use Rattle.table_check.specs.declared.Step.TheVariants.{Next, Stop}
-use Rattle.table_check.specs.Reading.{got_of, step_of, checked_with, body_of}
+use Rattle.table_check.specs.Reading.{body_of}
+use Rattle.refusal.specs.Refusals.{result_of}
+use Rattle.refusal.proofs.Results.{result_ok, result_err}
 
-pub got_value : (o : Option Refusal) (x : ℕ) {v : ℕ} → got_of o x ≡ Value v → (o ≡ none) × (x ≡ v)
-got_value none x e = (refl, cc)
-got_value (some f) x e = (cc, cc)
-
-pub got_wrong : (o : Option Refusal) (x : ℕ) {f : Refusal} → got_of o x ≡ Wrong f → o ≡ some f
-got_wrong none x e = cc
-got_wrong (some g) x e = cc
-
-pub step_next : (o : Option Refusal) (x : ℕ) {v : ℕ} → step_of o x ≡ Next v → (o ≡ none) × (x ≡ v)
-step_next none x e = (refl, cc)
-step_next (some f) x e = (cc, cc)
-
-pub step_stop : (o : Option Refusal) (x : ℕ) {f : Refusal} → step_of o x ≡ Stop f → o ≡ some f
-step_stop none x e = cc
-step_stop (some g) x e = cc
-
-pub got_ranged : (ws : List ℕ) (at low high : ℕ) (f : Refusal) {r : Got} {v : ℕ}
-    → r ≡ got_of (range_fault ws at low high f) (get_or ws at 0) → r ≡ Value v → Ranged ws at low high f v
+pub got_ranged : (ws : List ℕ) (at low high : ℕ) (f : Refusal) {r : Result ℕ Refusal} {v : ℕ}
+    → r ≡ result_of (range_fault ws at low high f) (get_or ws at 0) → r ≡ Ok v → Ranged ws at low high f v
 got_ranged ws at low high f p q =
-    let e = got_value (range_fault ws at low high f) (get_or ws at 0) (sym p ∙ q) in
+    let e = result_ok (range_fault ws at low high f) (get_or ws at 0) (sym p ∙ q) in
     subst (Ranged ws at low high f) e.1 (range_none ws at low high f e.0)
 
 -- ---- the whole answer
 
 -- a fault is answered as it is
-pub checked_fault : (ws : List ℕ) (f : Refusal) → first_fault_lem ws ≡ some f → checked_of (judged ws) ≡ Checked.Refused f
+checked_fault : (ws : List ℕ) (f : Refusal) → first_fault_lem ws ≡ some f → checked_of (judged ws) ≡ Err f
 unfolding judged
 checked_fault ws f e = rw e
+
+pub boxes_fault : (ws : List ℕ) {f : Refusal} → range_fault ws 0 1 64 (Count 0) ≡ some f → checked_of (judged ws) ≡ Err f
+unfolding first_fault_lem
+boxes_fault ws e = checked_fault ws _ (rw e)
+
+pub pairs_fault : (ws : List ℕ) {f : Refusal} → range_fault ws 0 1 64 (Count 0) ≡ none → range_fault ws 1 0 256 (Count 1) ≡ some f
+    → checked_of (judged ws) ≡ Err f
+unfolding first_fault_lem
+pairs_fault ws p e = checked_fault ws _ (rw (p, e))
 
 -- where the counts are in range, the rest decides
 first_body : (ws : List ℕ) → range_fault ws 0 1 64 (Count 0) ≡ none → range_fault ws 1 0 256 (Count 1) ≡ none
@@ -56,7 +48,7 @@ pub checked_body : (ws : List ℕ) → range_fault ws 0 1 64 (Count 0) ≡ none 
 unfolding judged
 checked_body ws p q = go (body_fault ws (box_count ws) (pair_count ws)) refl
   where
-    go : (o : Option Refusal) → body_fault ws (box_count ws) (pair_count ws) ≡ o → checked_of (judged ws) ≡ checked_with o (box_count ws) (pair_count ws)
+    go : (o : Option Refusal) → body_fault ws (box_count ws) (pair_count ws) ≡ o → checked_of (judged ws) ≡ result_of o (record { boxes = box_count ws; pairs = pair_count ws })
     go none e =
         let f = first_body ws p q ∙ e in
         let c = table_counts ws f in
@@ -66,10 +58,10 @@ checked_body ws p q = go (body_fault ws (box_count ws) (pair_count ws)) refl
 -- ---- what the functions' goals are found with
 
 -- a turn of a loop that reads, and its end
-pub ruleset turns = (first_end, first_next, first_found, got_value, got_wrong, step_next, step_stop, end_turn, end_last)
+pub ruleset turns = (first_end, first_next, first_found, result_ok, result_err, end_turn, end_last)
 
 -- what it says of words that they met no fault
-pub ruleset faultless = (range_none, partners_none, box_stands)
+pub ruleset faultless = (result_ok, result_err, range_none, partners_none, box_stands)
 
 -- the answer from its parts
-pub ruleset whole = (got_ranged, checked_body)
+pub ruleset whole = (result_ok, result_err, got_ranged, boxes_fault, pairs_fault, checked_body)

@@ -19,129 +19,89 @@ ghost use Rattle.table.specs.Words.{
   BoxStands,
 };
 ghost use Rattle.table.specs.Answers.{checked_of};
-ghost use Rattle.table_check.specs.Reading.{body_of, got_of, step_of};
+ghost use Rattle.refusal.specs.Refusals.{result_of};
+ghost use Rattle.table_check.specs.Reading.{body_of};
 
 use refusal::Refusal;
-use table::{Checked, Counts};
-
-// A word that was read, or what is wrong with it.
-#[derive(Clone, Copy)]
-enum Got {
-    Value(u32),
-    Wrong(Refusal),
-}
-
-// Where reading goes on, or what stops it.
-#[derive(Clone, Copy)]
-enum Step {
-    Next(usize),
-    Stop(Refusal),
-}
+use table::Counts;
 
 // The word at `at`, if it is there and lies in low..=high.
 #[tactic(auto, unfolding(table::specs::Words::range_fault))]
-fn ranged(words: &[u32], at: usize, low: u32, high: u32, out: Refusal) -> Got
-    ensures { result ≡ got_of (range_fault words.now at low high out) (get_or words.now at 0) }
+fn ranged(words: &[u32], at: usize, low: u32, high: u32, out: Refusal) -> Result<u32, Refusal>
+    ensures { result ≡ result_of (range_fault words.now at low high out) (get_or words.now at 0) }
 {
     if words.len() <= at {
-        return Got::Wrong(Refusal::Missing(at));
+        return Err(Refusal::Missing(at));
     }
     let x = words[at];
     if x < low {
-        return Got::Wrong(out);
+        return Err(out);
     }
     if high < x {
-        return Got::Wrong(out);
+        return Err(out);
     }
-    Got::Value(x)
+    Ok(x)
 }
 
 // The mask at `at`, if it is there and has no bit past `m` values.
 #[tactic(auto, unfolding(table::specs::Words::mask_fault))]
-fn narrow(words: &[u32], m: u32, at: usize) -> Got
+fn narrow(words: &[u32], m: u32, at: usize) -> Result<u32, Refusal>
     requires { m < 32 }
-    ensures { result ≡ got_of (mask_fault words.now m at) (get_or words.now at 0) }
+    ensures { result ≡ result_of (mask_fault words.now m at) (get_or words.now at 0) }
 {
     if words.len() <= at {
-        return Got::Wrong(Refusal::Missing(at));
+        return Err(Refusal::Missing(at));
     }
     let x = words[at];
     let past = x >> m;
     if past == 0 {
-        return Got::Value(x);
+        return Ok(x);
     }
-    Got::Wrong(Refusal::Mask(at))
+    Err(Refusal::Mask(at))
 }
 
-// The `n` domain sizes, which begin at word 2.
+// The `n` domain sizes, which begin at word 2: where they end.
 #[tactic(auto, using(crate::proofs::Reading::turns))]
-fn sizes(words: &[u32], n: usize) -> Step
+fn sizes(words: &[u32], n: usize) -> Result<usize, Refusal>
     requires { n ≤ 64 }
-    ensures { result ≡ step_of (sizes_fault words.now n 2) (n + 2) }
+    ensures { result ≡ result_of (sizes_fault words.now n 2) (n + 2) }
 {
-    let mut i = 0;
-    while i < n {
-        let at = i + 2;
-        match ranged(words, at, 1, 16, Refusal::Domain(at)) {
-            Got::Value(_) => {}
-            Got::Wrong(f) => {
-                return Step::Stop(f);
-            }
-        }
-        i += 1;
+    for at in 2..n + 2 {
+        ranged(words, at, 1, 16, Refusal::Domain(at))?;
     }
-    Step::Next(n + 2)
+    Ok(n + 2)
 }
 
-// The `count` masks that begin at word `from`, each of at most `m` values.
+// The `count` masks that begin at word `from`, each of at most `m` values: where they end.
 #[tactic(auto, using(crate::proofs::Reading::turns))]
-fn masks(words: &[u32], m: u32, count: usize, from: usize) -> Step
+fn masks(words: &[u32], m: u32, count: usize, from: usize) -> Result<usize, Refusal>
     requires { (m < 32) × (from + count < 2 ^ 64) }
-    ensures { result ≡ step_of (masks_fault words.now m count from) (from + count) }
+    ensures { result ≡ result_of (masks_fault words.now m count from) (from + count) }
 {
-    let mut i = 0;
-    while i < count {
-        let at = from + i;
-        match narrow(words, m, at) {
-            Got::Value(_) => {}
-            Got::Wrong(f) => {
-                return Step::Stop(f);
-            }
-        }
-        i += 1;
+    for at in from..from + count {
+        narrow(words, m, at)?;
     }
-    Step::Next(from + count)
+    Ok(from + count)
 }
 
 // The two boxes of the pair at word `at`: where its weight stands.
 #[tactic(auto, using(crate::proofs::Reading::faultless), unfolding(table::specs::Words::partners_fault))]
-fn partners(words: &[u32], n: u32, at: usize) -> Step
-    ensures { result ≡ step_of (partners_fault words.now n at) (at + 2) }
+fn partners(words: &[u32], n: u32, at: usize) -> Result<usize, Refusal>
+    ensures { result ≡ result_of (partners_fault words.now n at) (at + 2) }
 {
-    let first = match ranged(words, at, 1, n, Refusal::Partner(at)) {
-        Got::Value(x) => x,
-        Got::Wrong(f) => {
-            return Step::Stop(f);
-        }
-    };
+    let first = ranged(words, at, 1, n, Refusal::Partner(at))?;
     let after = at + 1;
-    let second = match ranged(words, after, 1, n, Refusal::Partner(after)) {
-        Got::Value(x) => x,
-        Got::Wrong(f) => {
-            return Step::Stop(f);
-        }
-    };
+    let second = ranged(words, after, 1, n, Refusal::Partner(after))?;
     if second == first {
-        return Step::Stop(Refusal::Partner(after));
+        return Err(Refusal::Partner(after));
     }
-    let weight = at + 2;
-    Step::Next(weight)
+    Ok(at + 2)
 }
 
 // The masks of the pair at word `at`, whose boxes and weight stand: where the next pair begins.
-fn rows(words: &[u32], at: usize) -> Step
+fn rows(words: &[u32], at: usize) -> Result<usize, Refusal>
     requires { (at + 2 < length words.now) × BoxStands words.now (get_or words.now at 0) × BoxStands words.now (get_or words.now (at + 1) 0) }
-    ensures { result ≡ step_of (rows_fault words.now at) (pair_next words.now at) }
+    ensures { result ≡ result_of (rows_fault words.now at) (pair_next words.now at) }
 {
     let first = lists::word(words, at);
     let second = lists::word(words, at + 1);
@@ -151,75 +111,52 @@ fn rows(words: &[u32], at: usize) -> Step
 
 // The pair at word `at`: where the next one begins.
 #[tactic(auto, using(crate::proofs::Reading::faultless), unfolding(table::specs::Words::pair_fault))]
-fn pair(words: &[u32], n: u32, at: usize) -> Step
+fn pair(words: &[u32], n: u32, at: usize) -> Result<usize, Refusal>
     requires { (n ≡ box_count words.now) × (sizes_fault words.now (box_count words.now) 2 ≡ none) }
-    ensures { result ≡ step_of (pair_fault words.now n at) (pair_next words.now at) }
+    ensures { result ≡ result_of (pair_fault words.now n at) (pair_next words.now at) }
 {
-    match partners(words, n, at) {
-        Step::Stop(f) => Step::Stop(f),
-        Step::Next(w) => match ranged(words, w, 1, 1000000, Refusal::Weight(w)) {
-            Got::Wrong(f) => Step::Stop(f),
-            Got::Value(_) => rows(words, at),
-        },
-    }
+    let weight = partners(words, n, at)?;
+    ranged(words, weight, 1, 1000000, Refusal::Weight(weight))?;
+    rows(words, at)
 }
 
 // The `p` pairs that begin at word `from`: where they end.
 #[tactic(auto, using(crate::proofs::Reading::turns))]
-fn pairs(words: &[u32], n: u32, p: u32, from: usize) -> Step
+fn pairs(words: &[u32], n: u32, p: u32, from: usize) -> Result<usize, Refusal>
     requires { (n ≡ box_count words.now) × (sizes_fault words.now (box_count words.now) 2 ≡ none) }
-    ensures { result ≡ step_of (pairs_fault words.now n p from) (pairs_end words.now p from) }
+    ensures { result ≡ result_of (pairs_fault words.now n p from) (pairs_end words.now p from) }
 {
     let mut at = from;
-    let mut k = 0;
-    while k < p {
-        match pair(words, n, at) {
-            Step::Next(next) => {
-                at = next;
-            }
-            Step::Stop(f) => {
-                return Step::Stop(f);
-            }
-        }
-        k += 1;
+    for _ in 0..p {
+        at = pair(words, n, at)?;
     }
-    Step::Next(at)
+    Ok(at)
 }
 
 // What follows the two counts.
 #[tactic(auto, unfolding(table::specs::Words::body_fault))]
-fn body(words: &[u32], n: u32, p: u32) -> Checked
+fn body(words: &[u32], n: u32, p: u32) -> Result<Counts, Refusal>
     requires { (n ≡ box_count words.now) × (1 ≤ n) × (n ≤ 64) }
     ensures { result ≡ body_of words.now n p }
 {
     let boxes = lists::wide(n);
-    match sizes(words, boxes) {
-        Step::Stop(f) => Checked::Refused(f),
-        Step::Next(from) => match pairs(words, n, p, from) {
-            Step::Stop(f) => Checked::Refused(f),
-            Step::Next(end) => {
-                if end < words.len() {
-                    return Checked::Refused(Refusal::Extra(end));
-                }
-                Checked::Accepted(Counts {
-                    boxes,
-                    pairs: lists::wide(p),
-                })
-            }
-        },
+    let from = sizes(words, boxes)?;
+    let end = pairs(words, n, p, from)?;
+    if end < words.len() {
+        return Err(Refusal::Extra(end));
     }
+    Ok(Counts {
+        boxes,
+        pairs: lists::wide(p),
+    })
 }
 
 // The table's counts, or the first fault that reading its words left to right meets.
 #[tactic(auto, using(crate::proofs::Reading::whole))]
-pub fn check(words: &[u32]) -> Checked
+pub fn check(words: &[u32]) -> Result<Counts, Refusal>
     ensures { result ≡ checked_of (judged words.now) }
 {
-    match ranged(words, 0, 1, 64, Refusal::Count(0)) {
-        Got::Wrong(f) => Checked::Refused(f),
-        Got::Value(n) => match ranged(words, 1, 0, 256, Refusal::Count(1)) {
-            Got::Wrong(f) => Checked::Refused(f),
-            Got::Value(p) => body(words, n, p),
-        },
-    }
+    let n = ranged(words, 0, 1, 64, Refusal::Count(0))?;
+    let p = ranged(words, 1, 0, 256, Refusal::Count(1))?;
+    body(words, n, p)
 }

@@ -1,8 +1,7 @@
 -- How long a line is, and a row's characters one by one.
 use mathlib.Core.Path.{◌≡◌, refl, ap}
-use mathlib.Core.List.{List, [], ◌∷◌, ◌++◌, append_assoc}
-use Prim.Native.Nat.{ℕ, zero, suc, ◌+◌, ◌-◌, ◌/◌, ◌%◌, ◌^◌, ◌≤◌, ◌<◌}
-use native.Mathlib.Numerals.{sub-one}
+use mathlib.Core.List.{List, ◌∷◌, ◌++◌, append_assoc}
+use Prim.Native.Nat.{ℕ, zero, suc, ◌+◌, ◌/◌, ◌^◌, ◌≤◌, ◌<◌}
 use native.Mathlib.Omega.{arith}
 use lib.ListN.{length, length-append}
 use Rattle.lists.specs.Decimal.{digits}
@@ -35,15 +34,3 @@ line_split key n rest = simp append_assoc
 pub row_split : (key : List ℕ) (m mask : ℕ) (rest : List ℕ) → key ++ (bits_of m mask ++ (10 ∷ rest)) ≡ row_of key m mask ++ rest
 unfolding row_of
 row_split key m mask rest = simp append_assoc
-
--- ---- a turn of the loop that puts the characters
-
-pub bits_none : (m mask : ℕ) → m ≡ 0 → bits_of m mask ≡ []
-unfolding bits_of
-bits_none zero mask e = refl
-bits_none (suc m) mask e = absurd (omega arith)
-
-pub bits_step : (m mask : ℕ) → 0 < m → bits_of m mask ≡ ((48 + mask % 2) ∷ []) ++ bits_of (m - 1) (mask / 2)
-unfolding bits_of
-bits_step zero mask h = absurd (omega arith)
-bits_step (suc m) mask h = rw sub-one

@@ -19,15 +19,12 @@ pub fn top_of(words: &[u32], counts: Counts) -> u64
     requires { Counted words.now counts }
     ensures { result ≡ top (table_of words.now) }
 {
-    let p = counts.pairs;
     let mut sum = 1;
     let mut at = counts.boxes + 2;
-    let mut k = 0;
-    while k < p {
+    for _ in 0..counts.pairs {
         let pair = reader::pair_at(words, at);
-        sum += lists::wide(pair.weight) as u64;
+        sum += u64::from(pair.weight);
         at = pair.next;
-        k += 1;
     }
     sum
 }
@@ -39,12 +36,10 @@ pub fn hard_tally(words: &[u32], n: u32, hard: Hard) -> Tally
 {
     let mut clauses = 0;
     let mut literals = 0;
-    let mut b = 1;
-    while b <= n {
+    for b in 1..n + 1 {
         let part = hard::box_tally(hard, table::size(words, b));
         clauses += part.clauses;
         literals += part.literals;
-        b += 1;
     }
     Tally { clauses, literals }
 }
@@ -65,17 +60,14 @@ pub fn soft_tally(words: &[u32], counts: Counts, side: Side) -> Tally
         × (result.clauses ≤ 65536)
         × (result.literals ≤ 262144) }
 {
-    let p = counts.pairs;
     let mut clauses = 0;
     let mut literals = 0;
     let mut at = counts.boxes + 2;
-    let mut k = 0;
-    while k < p {
+    for _ in 0..counts.pairs {
         let part = pairs::pair_tally(words, side, at);
         clauses += part.clauses;
         literals += part.literals;
         at = next_pair(words, at);
-        k += 1;
     }
     Tally { clauses, literals }
 }

@@ -6,15 +6,13 @@ use mathlib.Core.List.{[], ◌∷◌, ◌++◌}
 use Prim.Native.Nat.{ℕ, zero, suc, ◌+◌}
 use native.Mathlib.Omega.{arith}
 use lib.ListN.{length, length-append}
-use lib.Dec.{T}
-use lib.IntN.{ℤ, pos, negsuc, nat_abs, ◌-ℤ◌}
-use lib.Signed.{lt_z, non_neg}
+use lib.IntN.{ℤ, pos, negsuc, nat_abs}
+use lib.Signed.{lt_z}
 use borrow.Author.Tests.{ltb-true}
-use mir.Syntax.{w32, w64}
-use mir.Val.{Fits, SFits, to_z, of_z}
+use mir.Syntax.{w32}
+use mir.Val.{SFits, to_z, of_z}
 use mir.ValLaws.{to_z-of_z}
 use Rattle.lists.specs.Decimal.{digits, signed}
-use Rattle.lists.proofs.Truth.{clash}
 use Rattle.wcnf.specs.Entries.{sign, opening, ending}
 
 -- ---- as it is passed on
@@ -22,37 +20,7 @@ use Rattle.wcnf.specs.Entries.{sign, opening, ending}
 pub back : (z : ℤ) → SFits w32 z → to_z w32 (of_z w32 z) ≡ z
 back z f = to_z-of_z w32 z f
 
-wider : (z : ℤ) → SFits w32 z → SFits w64 z
-wider (pos n) f = record { sfits = omega (arith, f.sfits) }
-wider (negsuc n) f = record { sfits = omega (arith, f.sfits) }
-
-pub widened : (z : ℤ) → SFits w32 z → SFits w64 (to_z w32 (of_z w32 z))
-widened z f = rw (back z f) (wider z f)
-
-pub wide_back : (z : ℤ) → SFits w32 z → to_z w64 (of_z w64 (to_z w32 (of_z w32 z))) ≡ z
-wide_back z f = ap (λ (y : ℤ). to_z w64 (of_z w64 y)) (back z f) ∙ to_z-of_z w64 z (wider z f)
-
--- ---- below 0
-
-pub record Below (z : ℤ) : Type 0 where
-  pub fits : SFits w64 (pos 0 -ℤ z)
-  pub up : T (non_neg (pos 0 -ℤ z))
-  pub holds : Fits w64 (nat_abs (pos 0 -ℤ z))
-  pub same : nat_abs (pos 0 -ℤ z) ≡ nat_abs z
-
-down : (z : ℤ) → SFits w32 z → lt_z z (pos 0) ≡ true → Below z
-down (pos n) f h = absurd (omega (arith, ltb-true n 0 h))
-down (negsuc n) f h =
-    record {
-      fits = record { sfits = omega (arith, f.sfits) };
-      up = tt;
-      holds = record { fits = omega (arith, f.sfits) };
-      same = omega arith;
-    }
-
-up : (z : ℤ) → SFits w32 z → lt_z z (pos 0) ≡ false → T (non_neg z) × Fits w64 (nat_abs z)
-up (pos n) f h = (tt, record { fits = omega (arith, f.sfits) })
-up (negsuc n) f h = clash refl h
+-- ---- its sign
 
 minus : (z : ℤ) → lt_z z (pos 0) ≡ true → sign z ≡ 45 ∷ []
 minus (pos n) h = absurd (omega (arith, ltb-true n 0 h))
@@ -61,12 +29,6 @@ minus (negsuc n) h = refl
 plain : (z : ℤ) → lt_z z (pos 0) ≡ false → sign z ≡ []
 plain (pos n) h = refl
 plain (negsuc n) h = cc
-
-pub below : (z : ℤ) → SFits w32 z → lt_z (to_z w32 (of_z w32 z)) (pos 0) ≡ true → Below z
-below z f h = down z f (rw (back z f) at h)
-
-pub least : (z : ℤ) → SFits w32 z → lt_z (to_z w32 (of_z w32 z)) (pos 0) ≡ false → T (non_neg z) × Fits w64 (nat_abs z)
-least z f h = up z f (rw (back z f) at h)
 
 pub sign_below : (z : ℤ) → SFits w32 z → lt_z (to_z w32 (of_z w32 z)) (pos 0) ≡ true → sign z ≡ 45 ∷ []
 sign_below z f h = minus z (rw (back z f) at h)

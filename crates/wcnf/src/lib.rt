@@ -6,36 +6,29 @@ ghost use Rattle.lists.specs.Stores.{Wrote};
 ghost use Rattle.lists.specs.Decimal.{signed};
 ghost use Rattle.wcnf.specs.Entries.{sign, opening, ending, entry_text, entries_text};
 
-// A signed number without its sign.
-fn magnitude(v: i32) -> u64
-    ensures { result ≡ nat_abs v }
-{
-    if v < 0 {
-        return -(v as i64) as u64;
-    }
-    v as u64
-}
-
+#[tactic(auto, using(crate::proofs::Signed::sign_below, crate::proofs::Signed::sign_above, lists::proofs::Stores::wrote_none))]
 fn put_sign(out: &mut [u8], at: usize, v: i32) -> usize
     requires { at + length (sign v) < 2 ^ 64 }
     ensures { Wrote out.old at (sign v) result out.new }
 {
     if v < 0 {
-        return stores::put_byte(out, at, 45);
+        return stores::put(out, at, 45);
     }
     at
 }
 
 // A signed number.
+#[tactic(auto, using(crate::proofs::Signed::back, crate::proofs::Signed::signed_parts, crate::proofs::Signed::signed_long, lists::proofs::Stores::wrote_append))]
 fn put_signed(out: &mut [u8], at: usize, v: i32) -> usize
     requires { at + length (signed v) < 2 ^ 64 }
     ensures { Wrote out.old at (signed v) result out.new }
 {
     let number = put_sign(out, at, v);
-    text_out::put_number(out, number, magnitude(v))
+    text_out::put_number(out, number, v.unsigned_abs() as u64)
 }
 
 // The weight, where the entry before closes a clause.
+#[tactic(auto, using(crate::proofs::Signed::zero_is, crate::proofs::Signed::zero_not, crate::proofs::Signed::opens, crate::proofs::Signed::goes_on, lists::proofs::Stores::wrote_none))]
 fn put_opening(out: &mut [u8], at: usize, weight: u64, past: i32) -> usize
     requires { at + length (opening weight past) < 2 ^ 64 }
     ensures { Wrote out.old at (opening weight past) result out.new }
@@ -47,27 +40,30 @@ fn put_opening(out: &mut [u8], at: usize, weight: u64, past: i32) -> usize
 }
 
 // An entry after its space: a literal, or the 0 that closes its clause and ends the line.
+#[tactic(auto, using(crate::proofs::Signed::back, crate::proofs::Signed::zero_is, crate::proofs::Signed::zero_not, crate::proofs::Signed::closes, crate::proofs::Signed::stays))]
 fn put_ending(out: &mut [u8], at: usize, v: i32) -> usize
     requires { at + length (ending v) < 2 ^ 64 }
     ensures { Wrote out.old at (ending v) result out.new }
 {
     if v == 0 {
-        return text_out::put_bytes(out, at, b"0\n");
+        return stores::put_all(out, at, b"0\n");
     }
     put_signed(out, at, v)
 }
 
 // An entry that follows the entry `past`.
+#[tactic(auto, using(crate::proofs::Signed::back, crate::proofs::Lines::length_entry))]
 fn put_entry(out: &mut [u8], at: usize, weight: u64, past: i32, v: i32) -> usize
     requires { at + length (entry_text weight past v) < 2 ^ 64 }
     ensures { Wrote out.old at (entry_text weight past v) result out.new }
 {
     let space = put_opening(out, at, weight, past);
-    let number = stores::put_byte(out, space, 32);
+    let number = stores::put(out, space, 32);
     put_ending(out, number, v)
 }
 
 // A line for each clause of `part`, all of one weight. No entry takes more than 64 bytes.
+#[tactic(auto, using(crate::proofs::Lines::lined_all, crate::proofs::Lines::entry_short, crate::proofs::Signed::back))]
 fn put_lines(out: &mut [u8], from: usize, weight: u64, part: &[i32]) -> usize
     requires { from + 64 * length part.now < 2 ^ 64 }
     ensures { Wrote out.old from (entries_text weight part.now) result out.new
@@ -75,12 +71,9 @@ fn put_lines(out: &mut [u8], from: usize, weight: u64, part: &[i32]) -> usize
 {
     let mut at = from;
     let mut past = 0;
-    let mut i = 0;
-    while i < part.len() {
-        let v = part[i];
-        at = put_entry(out, at, weight, past, v);
-        past = v;
-        i += 1;
+    for v in part {
+        at = put_entry(out, at, weight, past, *v);
+        past = *v;
     }
     at
 }

@@ -11,7 +11,7 @@ fn put_ended(out: &mut [u8], at: usize, n: u64, b: u8) -> usize
     ensures { Wrote out.old at (ended n b) result out.new }
 {
     let end = text_out::put_number(out, at, n);
-    stores::put_byte(out, end, b)
+    stores::put(out, end, b)
 }
 
 // p wcnf V C T: variables, clauses and top.
@@ -19,7 +19,7 @@ pub fn put_header(out: &mut [u8], at: usize, variables: u64, clauses: u64, top: 
     requires { at + 128 < 2 ^ 64 }
     ensures { Wrote out.old at (header_text variables clauses top) result out.new × (result ≤ at + 128) }
 {
-    let one = text_out::put_bytes(out, at, b"p wcnf ");
+    let one = stores::put_all(out, at, b"p wcnf ");
     let two = put_ended(out, one, variables, 32);
     let three = put_ended(out, two, clauses, 32);
     put_ended(out, three, top, 10)

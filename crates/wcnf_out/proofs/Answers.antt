@@ -1,4 +1,5 @@
 -- What is answered and left: the two outcomes.
+use Rattle.std.specs.Prelude.{Ok, Err}
 use mathlib.Core.Path.{◌≡◌, refl, ap}
 use mathlib.Core.List.{List}
 use Prim.Native.Nat.{ℕ}
@@ -15,11 +16,10 @@ use Rattle.whole.specs.Scratch.{scratch_left}
 use Rattle.whole.proofs.Scratch.{left}
 use Rattle.whole.specs.Verdict.{no, yes}
 use Rattle.wcnf_text.specs.Text.{text_of}
-use Rattle.wcnf_out.specs.declared.Written.{Written}
 use Rattle.wcnf_out.specs.Written.{Outcomes}
 
 -- a refusal leaves all as it was
-pub refusal_left : (f : Refusal) (first second : List ℤ) (text : List ℕ) → Outcomes (no f) first second text (Written.Refused f) first second text
+pub refusal_left : (f : Refusal) (first second : List ℤ) (text : List ℕ) → Outcomes (no f) first second text (Err f) first second text
 refusal_left f first second text = record { answer = refl; first_left = refl; second_left = refl; text_left_lem = refl }
 
 -- all is written
@@ -27,11 +27,11 @@ pub text_written : (e : Encoding) (t : Table) (first second first₁ second₁ :
     → Wrote text 0 (text_of e t) r text₁
     → first₁ ≡ scratch_through e.side one t t.pairs first → second₁ ≡ scratch_through e.side two t t.pairs second
     → first₂ ≡ scratch_left e.side first₁ → second₂ ≡ scratch_left e.side second₁
-    → Outcomes (yes e t) first second text (Written.Text r) first₂ second₂ text₁
+    → Outcomes (yes e t) first second text (Ok r) first₂ second₂ text₁
 text_written e t first second first₁ second₁ {r = r} w k l u v =
     let n : r ≡ length (text_of e t) = omega (arith, w.next) in
     record {
-      answer = ap Written.Text n;
+      answer = ap Ok n;
       first_left = left e.side one t first first₁ k u;
       second_left = left e.side two t second second₁ l v;
       text_left_lem = w.list;

@@ -11,18 +11,10 @@ ghost use Rattle.measure.specs.Measures.{lengths_for};
 ghost use Rattle.whole.specs.Verdict.{yes};
 ghost use Rattle.wcnf_out.specs.Written.{judged_room, verdict, Outcomes};
 
-use asked::Asked;
 use clause::Encoding;
 use measure::Lengths;
 use refusal::Refusal;
-use room::Fit;
 use table::Counts;
-
-#[derive(Clone, Copy)]
-pub enum Written {
-    Text(usize),
-    Refused(Refusal),
-}
 
 // The text, into buffers that were judged to hold it.
 fn write_text(
@@ -33,7 +25,7 @@ fn write_text(
     first: &mut [i32],
     second: &mut [i32],
     text: &mut [u8],
-) -> Written
+) -> Result<usize, Refusal>
     requires { Counted words.now counts
         × (needed ≡ lengths_for e (table_of words.now))
         × (scratch_length e.side one (table_of words.now) ≤ length first.old)
@@ -47,10 +39,11 @@ fn write_text(
     let long = wcnf_text::put_text(words, counts, e, needed, first, second, text);
     whole::tidy(side, first);
     whole::tidy(side, second);
-    Written::Text(long)
+    Ok(long)
 }
 
 // The text of a checked table, if the buffers hold it.
+#[tactic(auto, using(refusal::proofs::Results::judged_fine, refusal::proofs::Results::judged_wrong, crate::proofs::Answers::refusal_left, room::proofs::Fits::text_holds))]
 fn write_checked(
     words: &[u32],
     counts: Counts,
@@ -58,7 +51,7 @@ fn write_checked(
     first: &mut [i32],
     second: &mut [i32],
     text: &mut [u8],
-) -> Written
+) -> Result<usize, Refusal>
     requires { Counted words.now counts }
     ensures { Outcomes
         (judged_room e (table_of words.now) (length first.old) (length second.old) (length text.old))
@@ -69,13 +62,12 @@ fn write_checked(
     let scratch = measure::scratch_over(words, counts, side);
     let needed = measure::measure(words, counts, e);
     let long = wcnf_text::text_length(words, counts, e, needed);
-    match room::for_text(scratch, long, first.len(), second.len(), text.len()) {
-        Fit::Short(f) => Written::Refused(f),
-        Fit::Enough => write_text(words, counts, e, needed, first, second, text),
-    }
+    room::for_text(scratch, long, first.len(), second.len(), text.len())?;
+    write_text(words, counts, e, needed, first, second, text)
 }
 
 // WCNF text of a table: 8 for an unknown encoding, then 1 to 7, then 9 for the first buffer that is too short.
+#[tactic(auto, using(asked::proofs::Answers::asked_ready, asked::proofs::Answers::asked_refused, crate::proofs::Answers::refusal_left))]
 pub fn write_wcnf(
     words: &[u32],
     hard: u32,
@@ -83,14 +75,12 @@ pub fn write_wcnf(
     first: &mut [i32],
     second: &mut [i32],
     text: &mut [u8],
-) -> Written
+) -> Result<usize, Refusal>
     ensures { Outcomes
         (verdict (picked_of hard side) (judged words.now) (length first.old) (length second.old) (length text.old))
         first.old second.old text.old
         result first.new second.new text.new }
 {
-    match asked::ask(words, hard, side) {
-        Asked::Refused(f) => Written::Refused(f),
-        Asked::Ready(e, counts) => write_checked(words, counts, e, first, second, text),
-    }
+    let (e, counts) = asked::ask(words, hard, side)?;
+    write_checked(words, counts, e, first, second, text)
 }

@@ -8,7 +8,7 @@ use Rattle.lists.specs.Stores.{Wrote, Owes}
 use Rattle.lists.proofs.Stores.{wrote_append, wrote_long, owes_all, owes_part, owes_none}
 use Rattle.table.specs.declared.Counts.{Counts}
 use Rattle.table.specs.Table.{Table}
-use Rattle.table.specs.Words.{pair_at, pair_next, table_of, PairStands}
+use Rattle.table.specs.Words.{box_count, pair_at, pair_next, table_of, Accepted, PairStands}
 use Rattle.table.specs.Answers.{Counted}
 use Rattle.table.proofs.Tables.{pair_weight}
 use Rattle.clause.specs.declared.Encoding.{Encoding}
@@ -21,7 +21,7 @@ use Rattle.clause.specs.Lengths.{clause_count, top}
 use Rattle.clause.specs.Numbers.{values, thresholds, variables}
 use Rattle.clause.specs.Soft.{soft}
 use Rattle.clause.proofs.Turns.{hard_from, hard_turn, hard_end, soft_ahead, soft_turn, soft_end}
-use Rattle.totals.proofs.Starts.{soft_start}
+use Rattle.totals.proofs.Starts.{hard_start, soft_start}
 use Rattle.parts.proofs.Writing.{switched}
 use Rattle.measure.specs.declared.Lengths.{Lengths}
 use Rattle.measure.specs.Measures.{lengths_for}
@@ -31,12 +31,24 @@ use Rattle.wcnf_text.specs.Text.{text_of}
 
 -- ---- the boxes
 
-module _ (w : ℕ) (h : Hard) (t : Table) (n b : ℕ) where
-  pub boxes_turn : b ≤ n → lines_of w (hard_from h t n b) ≡ lines_of w (box_clauses h t b) ++ lines_of w (hard_from h t n (b + 1))
-  boxes_turn l = ap (lines_of w) (hard_turn h t n b l) ∙ lines_append w (box_clauses h t b) (hard_from h t n (b + 1))
+-- what the boxes from b on have is owed
+pub record Boxes (w : ℕ) (h : Hard) (ws : List ℕ) (n : ℕ) (old : List ℕ) (from : ℕ) (out : List ℕ) (at b : ℕ) : Type 0 where
+  pub owed : Owes old from (lines_of w (hard_part h (table_of ws))) out at (lines_of w (hard_from h (table_of ws) n b))
 
-  pub boxes_end : n < b → lines_of w (hard_from h t n b) ≡ []
-  boxes_end l = ap (lines_of w) (hard_end h t n b l) ∙ lines_none w
+module _ {w : ℕ} {h : Hard} {ws : List ℕ} {n : ℕ} where
+  pub boxes_all : {old : List ℕ} {from : ℕ} → Accepted ws → n ≡ box_count ws → Boxes w h ws n old from old from 1
+  boxes_all A e = record { owed = rw (hard_start h ws n A e) owes_all }
+
+  module _ {old out : List ℕ} {from at b : ℕ} (B : Boxes w h ws n old from out at b) where
+    pub boxes_turn : {new : List ℕ} {r : ℕ} → b ≤ n → Wrote out at (lines_of w (box_clauses h (table_of ws) b)) r new
+        → Boxes w h ws n old from new r (b + 1)
+    boxes_turn l put =
+        let t = table_of ws in
+        let turn = ap (lines_of w) (hard_turn h t n b l) ∙ lines_append w (box_clauses h t b) (hard_from h t n (b + 1)) in
+        record { owed = owes_part B.owed turn put }
+
+    pub boxes_none : n < b → Wrote old from (lines_of w (hard_part h (table_of ws))) at out
+    boxes_none l = owes_none B.owed (ap (lines_of w) (hard_end h (table_of ws) n b l) ∙ lines_none w)
 
 -- ---- the pairs
 

@@ -37,15 +37,14 @@ fn put_boxes(
         × (result ≤ from + 4194304) }
 {
     let mut at = from;
-    let mut b = 1;
-    while b <= n {
+    for b in 1..=n {
         at = wcnf_parts::put_box(words, n, part, b, top, clauses, text, at);
-        b += 1;
     }
     at
 }
 
 // The lines of the pairs.
+#[tactic(auto, using(parts::proofs::Writing::head_inside, parts::proofs::Writing::boxes_few, table::proofs::Words::ahead_turn, numbers::proofs::Counted::bases_few))]
 fn put_pairs(
     words: &[u32],
     counts: Counts,
@@ -74,17 +73,16 @@ fn put_pairs(
     let mut switch = numbers::switch_base(words, n, part);
     let mut end = from;
     let mut at = counts.boxes + 2;
-    let mut k = 0;
-    while k < p {
+    for _ in 0..p {
         switch += 1;
         end = wcnf_parts::put_pair(words, side, switch, at, first, second, clauses, text, end);
         at = totals::next_pair(words, at);
-        k += 1;
     }
     end
 }
 
 // The whole text.
+#[tactic(auto, using(parts::proofs::Writing::head_inside))]
 pub fn put_text(
     words: &[u32],
     counts: Counts,

@@ -1,8 +1,7 @@
 -- The whole list from its two parts.
 use mathlib.Core.Path.{◌≡◌, ap, ◌∙◌}
 use mathlib.Core.List.{List, ◌++◌}
-use Prim.Native.Nat.{ℕ, ◌+◌, ◌^◌, ◌<◌}
-use native.Mathlib.Omega.{arith}
+use Prim.Native.Nat.{ℕ, ◌+◌}
 use lib.ListN.{length, replicate, length-append, length-replicate}
 use lib.IntN.{ℤ}
 use Rattle.lists.specs.Stores.{Wrote}
@@ -17,16 +16,9 @@ use Rattle.clause.proofs.Turns.{entries_clauses, weights_clauses}
 use Rattle.weights.proofs.Weighing.{weights_any}
 
 module _ (h : Hard) (s : Side) (t : Table) where
-  entries_long : length (entries (clauses h s t)) ≡ length (entries_of (hard_part h t)) + length (entries (soft_part h s t))
-  entries_long = ap length (entries_clauses h s t) ∙ length-append (entries_of (hard_part h t)) (entries (soft_part h s t))
-
   -- room for the whole is room for the hard part, and after it for the soft part
-  pub room_hard : length (entries (clauses h s t)) < 2 ^ 64 → 0 + length (entries_of (hard_part h t)) < 2 ^ 64
-  room_hard l = omega (arith, entries_long)
-
-  pub room_soft : {old new : List ℤ} {r : ℕ} → length (entries (clauses h s t)) < 2 ^ 64 → Wrote old 0 (entries_of (hard_part h t)) r new
-      → r + length (entries (soft_part h s t)) < 2 ^ 64
-  room_soft l w = omega (arith, entries_long, w.next)
+  pub entries_long : length (entries (clauses h s t)) ≡ length (entries_of (hard_part h t)) + length (entries (soft_part h s t))
+  entries_long = ap length (entries_clauses h s t) ∙ length-append (entries_of (hard_part h t)) (entries (soft_part h s t))
 
   pub whole_put : {old mid new : List ℤ} {r q : ℕ} → Wrote old 0 (entries_of (hard_part h t)) r mid → Wrote mid r (entries (soft_part h s t)) q new
       → Wrote old 0 (entries (clauses h s t)) q new
@@ -36,21 +28,17 @@ module _ (h : Hard) (s : Side) (t : Table) where
   weights_are : weights (clauses h s t) ≡ replicate (length (hard_part h t)) 0 ++ weights (soft_part Standard s t)
   weights_are = weights_clauses h s t ∙ ap (λ (l : List ℕ). replicate (length (hard_part h t)) 0 ++ l) (weights_any h Standard s t)
 
-  weights_long : length (weights (clauses h s t)) ≡ length (hard_part h t) + length (weights (soft_part Standard s t))
+  pub weights_long : length (weights (clauses h s t)) ≡ length (hard_part h t) + length (weights (soft_part Standard s t))
   weights_long =
       let w : ℕ = 0 in
       ap length weights_are
       ∙ length-append (replicate (length (hard_part h t)) w) (weights (soft_part Standard s t))
       ∙ ap (λ (n : ℕ). n + length (weights (soft_part Standard s t))) (length-replicate (length (hard_part h t)) w)
 
-  pub weigh_hard_room : length (weights (clauses h s t)) < 2 ^ 64 → 0 + length (hard_part h t) < 2 ^ 64
-  weigh_hard_room l = omega (arith, weights_long)
-
-  pub weigh_soft_room : {old new : List ℕ} {r : ℕ} → length (weights (clauses h s t)) < 2 ^ 64 → Wrote old 0 (replicate (length (hard_part h t)) 0) r new
-      → r + length (weights (soft_part Standard s t)) < 2 ^ 64
-  weigh_soft_room l w = let z : ℕ = 0 in omega (arith, weights_long, w.next, length-replicate (length (hard_part h t)) z)
-
   pub whole_weighed : {old mid new : List ℕ} {r q : ℕ} → Wrote old 0 (replicate (length (hard_part h t)) 0) r mid
       → Wrote mid r (weights (soft_part Standard s t)) q new
       → Wrote old 0 (weights (clauses h s t)) q new
   whole_weighed a b = rw weights_are (wrote_append a b)
+
+-- how long the weights of the hard part are, and all weights
+pub ruleset weights_room = (weights_long, length-replicate)

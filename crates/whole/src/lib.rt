@@ -16,6 +16,7 @@ use clause::{Hard, Side};
 use table::Counts;
 
 // The literals of the whole list.
+#[tactic(auto, using(parts::proofs::Writing::head_inside, crate::proofs::Whole::entries_long))]
 pub fn put_all(
     words: &[u32],
     counts: Counts,
@@ -41,6 +42,7 @@ pub fn put_all(
 }
 
 // The weights of the whole list.
+#[tactic(auto, using(parts::proofs::Writing::head_inside, crate::proofs::Whole::weights_room))]
 pub fn weigh_all(words: &[u32], counts: Counts, part: Hard, side: Side, out: &mut [u64]) -> usize
     requires { Counted words.now counts × (length (weights (clauses part side (table_of words.now))) < 2 ^ 64) }
     ensures { Wrote out.old 0 (weights (clauses part side (table_of words.now))) result out.new }
@@ -55,14 +57,7 @@ pub fn tidy(side: Side, scratch: &mut [i32])
     ensures { scratch.new ≡ scratch_left side scratch.old }
 {
     match side {
-        Side::Direct => {}
-        Side::Support => {}
-        Side::First => {}
-        Side::Literals => {
-            fills::clear(scratch);
-        }
-        Side::Score => {
-            fills::clear(scratch);
-        }
+        Side::Direct | Side::Support | Side::First => {}
+        Side::Literals | Side::Score => fills::clear(scratch),
     }
 }

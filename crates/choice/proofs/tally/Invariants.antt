@@ -5,7 +5,7 @@ use Rattle.choice.specs.Tally.{end_tally}
 use Rattle.ends.proofs.Values.{flat_from}
 use Rattle.ends.specs.Seen.{end_of}
 use Rattle.clause.specs.Ends.{support_at}
-use Prim.Native.Nat.{ℕ, ◌+◌, ◌-◌, ◌*◌, ◌≤◌}
+use Prim.Native.Nat.{ℕ, ◌+◌, ◌*◌, ◌≤◌}
 use mathlib.Core.List.{[]}
 use Rattle.choice.proofs.tally.Given as goal
 
@@ -15,12 +15,7 @@ so_far clauses literals score = record { clauses = clauses; literals = literals;
 abbrev pub invariant-loop-j : goal.invariant-loop-j
 invariant-loop-j l =
     let e = end_of l.words l.seen in
-    (1 ≤ l.j)
-    × (l.j ≤ l.mine + 1)
-    × (l.clauses + 1 ≤ l.j)
+    (l.clauses + 1 ≤ l.j)
     × (l.literals + 17 ≤ 17 * l.j)
     × (l.score + 16 ≤ 16 * l.j)
-    × Makes (so_far l.clauses l.literals l.score) (flat_from (support_at e []) l.mine l.j) (end_tally e)
-
-abbrev pub decreases-loop-j : goal.decreases-loop-j
-decreases-loop-j l = l.mine + 1 - l.j
+    × Makes (so_far l.clauses l.literals l.score) (flat_from (support_at e []) l.seen.mine l.j) (end_tally e)

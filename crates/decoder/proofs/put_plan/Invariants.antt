@@ -11,8 +11,6 @@ use Rattle.decoder.proofs.put_plan.Given as goal
 abbrev pub invariant-loop-b : goal.invariant-loop-b
 invariant-loop-b l =
     (1 ≤ l.b)
+    × (l.b ≤ l.n + 1)
     × (l.at < l.b)
     × Owes l.initial.plan 0 (plan_of (table_of l.words) l.list) l.plan l.at (map (value_of (table_of l.words) l.list) (count l.b (l.n + 1 - l.b)))
-
-abbrev pub decreases-loop-b : goal.decreases-loop-b
-decreases-loop-b l = l.n + 1 - l.b

@@ -4,13 +4,9 @@ use Rattle.ends.specs.Seen.{end_of}
 use Rattle.clause.specs.Clause.{entries_of}
 use Rattle.clause.specs.Ends.{direct_at, direct_row}
 use Rattle.lists.specs.Stores.{Owes}
-use Prim.Native.Nat.{◌+◌, ◌-◌, ◌≤◌}
 use Rattle.direct.proofs.put_row.Given as goal
 
 abbrev pub invariant-loop-i : goal.invariant-loop-i
 invariant-loop-i l =
     let e = end_of l.words l.seen in
-    (1 ≤ l.i) × (l.i ≤ l.theirs + 1) × Owes l.initial.out l.from (entries_of (direct_row e l.j)) l.out l.at (text_from (direct_at e l.j) l.theirs l.i)
-
-abbrev pub decreases-loop-i : goal.decreases-loop-i
-decreases-loop-i l = l.theirs + 1 - l.i
+    Owes l.initial.out l.from (entries_of (direct_row e l.j)) l.out l.at (text_from (direct_at e l.j) l.seen.theirs l.i)

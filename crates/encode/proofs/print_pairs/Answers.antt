@@ -3,6 +3,7 @@ use Rattle.numbers.proofs.Counted.{bases_few}
 use Rattle.table.proofs.Tables.{counted_start}
 use Rattle.table.proofs.Words.{ahead_turn, accepted_parts}
 use native.Mathlib.Nat.{sub-zero}
+use Prim.Native.Nat.{◌≤◌}
 use native.Mathlib.Omega.{arith}
 use borrow.Author.Rules.{rules}
 use Rattle.encode.proofs.print_pairs.Goals as goal
@@ -15,37 +16,38 @@ overflow_add-at g c =
     let b = counted_start c.args.words.now c.args.counts c.requires.0 in
     omega (arith, b.boxes, b.few_boxes)
 
-pub loop-k-init : goal.loop-k-init
-loop-k-init g c =
+pub loop-init : goal.loop-init
+loop-init g c =
     let b = counted_start c.args.words.now c.args.counts c.requires.0 in
     (omega arith, omega (arith, b.pairs, b.few_pairs), rw sub-zero b.ahead, omega arith, c.requires.4)
 
 pub overflow_add-switch : goal.overflow_add-switch
 overflow_add-switch g c =
     let few = bases_few c.args.words.now c.requires.0.table c.args.part in
-    omega (arith, few, c.switch_base-switch.ensures, c.loop-k.invariant.3, c.loop-k.invariant.0, c.loop-k.invariant.1)
+    omega (arith, few, c.switch_base-switch.ensures, c.loop.invariant.3, c.loop.invariant.0, c.loop.invariant.1)
 
-pub print_pair-end-requires : goal.print_pair-end-requires
-print_pair-end-requires g c =
+pub print_pair-requires : goal.print_pair-requires
+print_pair-requires g c =
     let ws = c.args.words.now in
-    let turn = ahead_turn ws c.args.counts.pairs c.loop-k.k c.loop-k.at c.loop-k-test.true c.loop-k.invariant.2 in
+    let turn = ahead_turn ws c.args.counts.pairs c.loop.counter c.loop.at c.loop-test.true c.loop.invariant.2 in
     let few = bases_few ws c.requires.0.table c.args.part in (
       c.requires.0.table,
       turn.0,
       omega arith,
-      omega (arith, few, c.switch_base-switch.ensures, c.loop-k.invariant.3, c.loop-k.invariant.0, c.loop-k.invariant.1),
+      omega (arith, few, c.switch_base-switch.ensures, c.loop.invariant.3, c.loop.invariant.0, c.loop.invariant.1),
       search rules,
       search rules,
       search rules,
-      c.loop-k.invariant.4,
+      c.loop.invariant.4,
     )
 
-pub loop-k-preserved : goal.loop-k-preserved
-loop-k-preserved g c =
-    let turn = ahead_turn c.args.words.now c.args.counts.pairs c.loop-k.k c.loop-k.at c.loop-k-test.true c.loop-k.invariant.2 in (
-      omega (arith, c.loop-k-test.true),
-      c.loop-k.invariant.1,
+pub loop-preserved : goal.loop-preserved
+loop-preserved g c =
+    let end : c.in_ok-end.end ≤ 65536 = search rules in
+    let turn = ahead_turn c.args.words.now c.args.counts.pairs c.loop.counter c.loop.at c.loop-test.true c.loop.invariant.2 in (
+      omega (arith, c.loop-test.true),
+      c.loop.invariant.1,
       rw c.next_pair-at.ensures turn.1,
-      omega (arith, c.loop-k.invariant.3),
-      c.print_pair-end.ensures,
+      omega (arith, c.loop.invariant.3),
+      end,
     )

@@ -4,12 +4,12 @@ use Rattle.exports.proofs.Told.{told_refused, told_given}
 use mathlib.Core.Path.{refl, sym, ap, ◌∙◌}
 use Rattle.exports.proofs.wickcollar_cost.Goals as goal
 
-pub returns-in-Refused : goal.returns-in-Refused
-returns-in-Refused c =
+pub returns-in-Err : goal.returns-in-Err
+returns-in-Err c =
     let e = c.cost.ensures in
-    told_refused (ap costed_says (sym (e) ∙ c.in-Refused.is)) c.code.ensures refl
+    told_refused (ap costed_says (sym e ∙ c.in-Err.is)) c.code.ensures refl
 
-pub returns-in-Cost : goal.returns-in-Cost
-returns-in-Cost c =
+pub returns-in-Ok : goal.returns-in-Ok
+returns-in-Ok c =
     let e = c.cost.ensures in
-    told_given (ap costed_says (sym (e) ∙ c.in-Cost.is))
+    told_given (ap costed_says (sym e ∙ c.in-Ok.is))

@@ -4,12 +4,12 @@ use Rattle.exports.proofs.Told.{told_refused, told_given}
 use mathlib.Core.Path.{refl, sym, ap, ◌∙◌}
 use Rattle.exports.proofs.wickcollar_write_sheet.Goals as goal
 
-pub returns-in-Refused : goal.returns-in-Refused
-returns-in-Refused c =
+pub returns-in-Err : goal.returns-in-Err
+returns-in-Err c =
     let e = c.write_sheet.ensures in
-    (told_refused (ap written_says (sym e.0 ∙ c.in-Refused.is)) c.code.ensures refl, e.1)
+    (told_refused (ap written_says (sym e.0 ∙ c.in-Err.is)) c.code.ensures refl, e.1)
 
-pub returns-in-Text : goal.returns-in-Text
-returns-in-Text c =
+pub returns-in-Ok : goal.returns-in-Ok
+returns-in-Ok c =
     let e = c.write_sheet.ensures in
-    (told_given (ap written_says (sym e.0 ∙ c.in-Text.is)), e.1)
+    (told_given (ap written_says (sym e.0 ∙ c.in-Ok.is)), e.1)

@@ -8,6 +8,3 @@ use Rattle.list_boxes.proofs.held.Given as goal
 
 abbrev pub invariant-loop-j : goal.invariant-loop-j
 invariant-loop-j l = (1 ≤ l.j) × (l.j ≤ l.m + 1) × (held (reads l.list) (value_from l.base) l.j (l.m + 1 - l.j) ≡ held (reads l.list) (value_from l.base) 1 l.m)
-
-abbrev pub decreases-loop-j : goal.decreases-loop-j
-decreases-loop-j l = l.m + 1 - l.j

@@ -3,7 +3,7 @@ use Rattle.list_boxes.proofs.Loops.{true_from}
 use Rattle.list_boxes.specs.Counted.{true_count_lem}
 use Rattle.clause.specs.Clause.{reads}
 use Rattle.clause.specs.Numbers.{value_from}
-use Prim.Native.Nat.{◌+◌, ◌-◌, ◌≤◌, ◌<◌}
+use Prim.Native.Nat.{◌+◌, ◌≤◌, ◌<◌}
 use mathlib.Core.Path.{◌≡◌}
 use Rattle.list_boxes.proofs.true_count.Given as goal
 
@@ -13,6 +13,3 @@ invariant-loop-j l =
     × (l.j ≤ l.m + 1)
     × (l.sum < l.j)
     × (l.sum + true_from (reads l.list) (value_from l.base) l.m l.j ≡ true_count_lem (reads l.list) (value_from l.base) l.m)
-
-abbrev pub decreases-loop-j : goal.decreases-loop-j
-decreases-loop-j l = l.m + 1 - l.j

@@ -1,4 +1,4 @@
--- The sheet is what stands above the first faulty line, and the list line decides the rest.
+-- The sheet is what stands above the first faulty line, and the list line decides the rest. The check finds the other goals.
 use Rattle.list_in.proofs.Answers.{at_line, top_bad, top_sheet}
 use Rattle.list_in.proofs.Tops.{refuses, reads}
 use Rattle.list_scan.proofs.ListLines.{start_most}
@@ -27,23 +27,11 @@ returns-in_default c =
     at_line (split_at l s) a.table.now a.list.now
     (top_bad s l at z (refuses (take at s) (sym c.in_default.is ∙ c.read_sheet.ensures.0)).is) c.first_fault-line.ensures
 
-pub slice_bounds-words-end : goal.slice_bounds-words-end
-slice_bounds-words-end c =
-    let s = c.args.text.now in
-    let at = c.line_start-at.result in
-    omega (arith, (reads (take at s) _ refl (sym c.in-Read.is ∙ c.read_sheet.ensures.0) c.read_sheet.ensures.1).most)
-
-pub slice_bounds-below-end : goal.slice_bounds-below-end
-slice_bounds-below-end c =
-    let s = c.args.text.now in
-    let at = c.line_start-at.result in
-    sym (reads (take at s) _ refl (sym c.in-Read.is ∙ c.read_sheet.ensures.0) c.read_sheet.ensures.1).count
-
 pub below-requires : goal.below-requires
 below-requires c =
     let s = c.args.text.now in
     let at = c.line_start-at.result in
-    let R = reads (take at s) _ refl (sym c.in-Read.is ∙ c.read_sheet.ensures.0) c.read_sheet.ensures.1 in
+    let R = reads (take at s) _ refl (sym c.in-Ok.is ∙ c.read_sheet.ensures.0) c.read_sheet.ensures.1 in
     (R.table, omega (arith, c.line_start-at.ensures, start_most c.first_fault-line.result s), omega (arith, R.count, R.most))
 
 pub returns : goal.returns
@@ -53,6 +41,6 @@ returns c =
     let at = c.line_start-at.result in
     let l = first_fault_lem (parsed s) in
     let z : at ≡ line_start_lem l s = c.line_start-at.ensures ∙ ap (λ (k : ℕ). line_start_lem k s) c.first_fault-line.ensures in
-    let R = reads (take at s) _ refl (sym c.in-Read.is
+    let R = reads (take at s) _ refl (sym c.in-Ok.is
     ∙ c.read_sheet.ensures.0) c.read_sheet.ensures.1 in
     rw (top_sheet s l at z R.is) c.below.ensures

@@ -11,6 +11,3 @@ invariant-loop-b l =
     (1 ≤ l.b)
     × (l.b ≤ l.n + 1)
     × (first_of (box_fault l.hard (table_of l.words) l.list) (λ k. k + 1) (l.n + 1 - l.b) l.b ≡ boxes_fault l.hard (table_of l.words) l.list)
-
-abbrev pub decreases-loop-b : goal.decreases-loop-b
-decreases-loop-b l = l.n + 1 - l.b

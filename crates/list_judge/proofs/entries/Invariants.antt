@@ -8,6 +8,3 @@ use Rattle.list_judge.proofs.entries.Given as goal
 
 abbrev pub invariant-loop-i : goal.invariant-loop-i
 invariant-loop-i l = (l.i ≤ length l.list) × (first_of (entry_fault l.list) (λ k. k + 1) (length l.list - l.i) l.i ≡ entries_fault l.list)
-
-abbrev pub decreases-loop-i : goal.decreases-loop-i
-decreases-loop-i l = length l.list - l.i

@@ -28,5 +28,5 @@ pub returns : goal.returns
 returns c =
     let a = c.args in
     both_fit a.hard a.side a.words.now (entries_of a.characters.now) a.table.now a.list.now refl (length_entries a.characters.now)
-    c.wanted-due.ensures (omega arith) (omega arith) (omega arith) c.put_words.ensures.list
+    c.wanted-due.ensures (omega arith) (omega arith) (omega arith) c.put_all.ensures.list
     c.put_list.ensures

@@ -14,49 +14,35 @@ use Rattle.measure.proofs.longest_list.Goals as goal
 pub overflow_add-at : goal.overflow_add-at
 overflow_add-at c =
     let b = counted_start c.args.words.now c.args.counts c.requires in
-    omega (arith, b.boxes, b.few_boxes)
+    omega arith
 
-pub loop-k-init : goal.loop-k-init
-loop-k-init c =
+pub loop-init : goal.loop-init
+loop-init c =
     let ws = c.args.words.now in
-    let b = counted_start ws c.args.counts c.requires in (
-      omega arith,
-      omega (arith, b.pairs, b.few_pairs),
-      rw sub-zero b.ahead,
-      rw (sub-zero, b.pairs, b.boxes) (longest_all (candidate_length_lem (table_of ws) (which_by c.args.second)) ws),
-    )
+    let b = counted_start ws c.args.counts c.requires in
+    (rw sub-zero b.ahead, rw (sub-zero, b.pairs, b.boxes) (longest_all (candidate_length_lem (table_of ws) (which_by c.args.second)) ws))
 
 pub candidate-requires : goal.candidate-requires
 candidate-requires c =
-    let ws = c.args.words.now in
-    let p = c.args.counts.pairs in
-    let turn = ahead_turn ws p c.loop-k.k c.loop-k.at c.loop-k-test.true c.loop-k.invariant.2 in
-    (c.requires.table, turn.0)
+    (c.requires.table, (ahead_turn c.args.words.now c.args.counts.pairs c.loop.counter c.loop.at c.loop-test.true c.loop.invariant.0).0)
 
 pub next_pair-at-requires : goal.next_pair-at-requires
-next_pair-at-requires c =
-    let ws = c.args.words.now in
-    let p = c.args.counts.pairs in
-    let turn = ahead_turn ws p c.loop-k.k c.loop-k.at c.loop-k-test.true c.loop-k.invariant.2 in
-    turn.0
+next_pair-at-requires c = (ahead_turn c.args.words.now c.args.counts.pairs c.loop.counter c.loop.at c.loop-test.true c.loop.invariant.0).0
 
-pub loop-k-preserved : goal.loop-k-preserved
-loop-k-preserved c =
+pub loop-preserved : goal.loop-preserved
+loop-preserved c =
     let ws = c.args.words.now in
     let p = c.args.counts.pairs in
-    let turn = ahead_turn ws p c.loop-k.k c.loop-k.at c.loop-k-test.true c.loop-k.invariant.2 in
+    let turn = ahead_turn ws p c.loop.counter c.loop.at c.loop-test.true c.loop.invariant.0 in
     let f = candidate_length_lem (table_of ws) (which_by c.args.second) in
-    let new = c.larger-best.ensures ∙ ap (max c.loop-k.best) c.candidate.ensures in (
-      omega (arith, c.loop-k-test.true),
-      c.loop-k.invariant.1,
+    let new = c.max-best.ensures ∙ ap (max c.loop.best) c.candidate.ensures in (
       rw c.next_pair-at.ensures turn.1,
-      rw (c.next_pair-at.ensures, new)
-          (longest_turn f ws p c.loop-k.k c.loop-k.at c.loop-k.best _ c.loop-k-test.true c.loop-k.invariant.3),
+      rw (c.next_pair-at.ensures, new) (longest_turn f ws p c.loop.counter c.loop.at c.loop.best _ c.loop-test.true c.loop.invariant.1),
     )
 
 pub returns : goal.returns
 returns c =
     let ws = c.args.words.now in
-    let z : c.args.counts.pairs - c.loop-k.k ≡ 0 = omega arith in
-    longest_last (candidate_length_lem (table_of ws) (which_by c.args.second)) ws c.args.counts.pairs c.loop-k.k
-    c.loop-k.at c.loop-k.best _ z c.loop-k.invariant.3
+    let z : c.args.counts.pairs - c.loop.counter ≡ 0 = omega arith in
+    longest_last (candidate_length_lem (table_of ws) (which_by c.args.second)) ws c.args.counts.pairs c.loop.counter c.loop.at c.loop.best _ z
+    c.loop.invariant.1

@@ -9,7 +9,7 @@ use Rattle.clause.specs.Numbers.{values, thresholds}
 use Rattle.clause.specs.Ends.{one, two}
 use Rattle.clause.specs.Clause.{entries_of}
 use Rattle.table.proofs.Tables.{counted_start}
-use Rattle.table.proofs.Words.{ahead_turn, accepted_parts}
+use Rattle.table.proofs.Words.{ahead_turn}
 use Rattle.table.specs.Words.{table_of, pair_at}
 use lib.ListN.{length}
 use Prim.Native.Nat.{◌+◌, ◌-◌}
@@ -18,19 +18,8 @@ use native.Mathlib.Omega.{arith}
 use mathlib.Core.Path.{◌≡◌, sym, ap, ◌∙◌}
 use Rattle.parts.proofs.put_soft.Goals as goal
 
-pub word-n-requires : goal.word-n-requires
-word-n-requires c = (accepted_parts _ c.requires.0.table).boxes.inside
-
-pub switch_base-switch-requires : goal.switch_base-switch-requires
-switch_base-switch-requires c = (c.requires.0.table, c.word-n.ensures)
-
-pub overflow_add-at : goal.overflow_add-at
-overflow_add-at c =
-    let b = counted_start c.args.words.now c.args.counts c.requires.0 in
-    omega (arith, b.boxes, b.few_boxes)
-
-pub loop-k-init : goal.loop-k-init
-loop-k-init c =
+pub loop-init : goal.loop-init
+loop-init c =
     let ws = c.args.words.now in
     let side = c.args.side in
     let n = c.args.counts in
@@ -46,63 +35,47 @@ loop-k-init c =
       leaves_all side two ws n c.requires.0 _,
     )
 
-pub overflow_add-switch : goal.overflow_add-switch
-overflow_add-switch c =
-    let ws = c.args.words.now in
-    let p = c.args.counts.pairs in
-    let t = table_of ws in
-    let few = bases_few ws c.requires.0.table c.args.part in
-    omega (arith, few, c.switch_base-switch.ensures, c.loop-k.invariant.3, c.loop-k.invariant.0, c.loop-k.invariant.1)
-
 pub put_pair-cursor-requires : goal.put_pair-cursor-requires
 put_pair-cursor-requires c =
     let ws = c.args.words.now in
     let p = c.args.counts.pairs in
     let t = table_of ws in
-    let turn = ahead_turn ws p c.loop-k.k c.loop-k.at c.loop-k-test.true c.loop-k.invariant.2 in
+    let turn = ahead_turn ws p c.loop.counter c.loop.at c.loop-test.true c.loop.invariant.2 in
     let is = c.switch_base-switch.ensures in
     let few = bases_few ws c.requires.0.table c.args.part in
-    let next : c.loop-k.switch + 1 ≡ values t + thresholds t c.args.part + (c.loop-k.k + 1) = omega (arith, is, c.loop-k.invariant.3) in
-    let text = soft_text c.args.part c.args.side ws p c.loop-k.k c.loop-k.at c.loop-k-test.true in
-    let fits = owes_room (entries_of (pair_clauses c.args.part c.args.side t (c.loop-k.k + 1) (pair_at ws c.loop-k.at))) _
-    (c.loop-k.invariant.4.owed c.args.part is) text c.requires.3 in (
+    let next : c.loop.switch + 1 ≡ values t + thresholds t c.args.part + (c.loop.counter + 1) = omega (arith, is, c.loop.invariant.3) in
+    let text = soft_text c.args.part c.args.side ws p c.loop.counter c.loop.at c.loop-test.true in
+    let fits = owes_room (entries_of (pair_clauses c.args.part c.args.side t (c.loop.counter + 1) (pair_at ws c.loop.at))) _
+    (c.loop.invariant.4.owed c.args.part is) text c.requires.3 in (
       c.requires.0.table,
       turn.0,
-      omega (arith, few, is, c.loop-k.invariant.3, c.loop-k.invariant.0, c.loop-k.invariant.1),
-      asked_now c.args.side one ws p c.loop-k.k c.loop-k.at _ c.loop-k-test.true c.loop-k.invariant.5,
-      asked_now c.args.side two ws p c.loop-k.k c.loop-k.at _ c.loop-k-test.true c.loop-k.invariant.6,
-      rw (sym (switched c.args.part c.args.side t (c.loop-k.k + 1) (c.loop-k.switch + 1) (pair_at ws c.loop-k.at) next)) at fits,
+      omega (arith, few, is, c.loop.invariant.3, c.loop.invariant.0, c.loop.invariant.1),
+      asked_now c.args.side one ws p c.loop.counter c.loop.at _ c.loop-test.true c.loop.invariant.5,
+      asked_now c.args.side two ws p c.loop.counter c.loop.at _ c.loop-test.true c.loop.invariant.6,
+      rw (sym (switched c.args.part c.args.side t (c.loop.counter + 1) (c.loop.switch + 1) (pair_at ws c.loop.at) next)) at fits,
     )
 
-pub next_pair-at-requires : goal.next_pair-at-requires
-next_pair-at-requires c =
+pub loop-preserved : goal.loop-preserved
+loop-preserved c =
     let ws = c.args.words.now in
     let p = c.args.counts.pairs in
     let t = table_of ws in
-    let turn = ahead_turn ws p c.loop-k.k c.loop-k.at c.loop-k-test.true c.loop-k.invariant.2 in
-    turn.0
-
-pub loop-k-preserved : goal.loop-k-preserved
-loop-k-preserved c =
-    let ws = c.args.words.now in
-    let p = c.args.counts.pairs in
-    let t = table_of ws in
-    let taken = c.loop-k-test.true in
-    let turn = ahead_turn ws p c.loop-k.k c.loop-k.at taken c.loop-k.invariant.2 in
+    let taken = c.loop-test.true in
+    let turn = ahead_turn ws p c.loop.counter c.loop.at taken c.loop.invariant.2 in
     let side = c.args.side in
     let wrote = c.put_pair-cursor.ensures in
     let next = c.next_pair-at.ensures in
-    let long_first = ap length wrote.1 ∙ with_long side one t (pair_at ws c.loop-k.at) _ in
-    let long_second = ap length wrote.2 ∙ with_long side two t (pair_at ws c.loop-k.at) _ in (
+    let long_first = ap length wrote.1 ∙ with_long side one t (pair_at ws c.loop.at) _ in
+    let long_second = ap length wrote.2 ∙ with_long side two t (pair_at ws c.loop.at) _ in (
       omega (arith, taken),
-      c.loop-k.invariant.1,
+      c.loop.invariant.1,
       rw next turn.1,
-      omega (arith, c.loop-k.invariant.3),
-      writes_turn side ws p c.loop-k.k c.loop-k.at taken c.loop-k.invariant.3 next wrote.0 c.loop-k.invariant.4,
-      rw (next, long_first) (asked_next side one ws p c.loop-k.k c.loop-k.at _ taken c.loop-k.invariant.5),
-      rw (next, long_second) (asked_next side two ws p c.loop-k.k c.loop-k.at _ taken c.loop-k.invariant.6),
-      leaves_turn side one ws p c.loop-k.k c.loop-k.at taken next wrote.1 c.loop-k.invariant.7,
-      leaves_turn side two ws p c.loop-k.k c.loop-k.at taken next wrote.2 c.loop-k.invariant.8,
+      omega (arith, c.loop.invariant.3),
+      writes_turn side ws p c.loop.counter c.loop.at taken c.loop.invariant.3 next wrote.0 c.loop.invariant.4,
+      rw (next, long_first) (asked_next side one ws p c.loop.counter c.loop.at _ taken c.loop.invariant.5),
+      rw (next, long_second) (asked_next side two ws p c.loop.counter c.loop.at _ taken c.loop.invariant.6),
+      leaves_turn side one ws p c.loop.counter c.loop.at taken next wrote.1 c.loop.invariant.7,
+      leaves_turn side two ws p c.loop.counter c.loop.at taken next wrote.2 c.loop.invariant.8,
     )
 
 pub returns : goal.returns
@@ -110,9 +83,9 @@ returns c =
     let ws = c.args.words.now in
     let p = c.args.counts.pairs in
     let t = table_of ws in
-    let z : p - c.loop-k.k ≡ 0 = omega (arith, c.loop-k-test.false) in
+    let z : p - c.loop.counter ≡ 0 = omega (arith, c.loop-test.false) in
     let side = c.args.side in (
-      writes_none side ws c.args.part z c.switch_base-switch.ensures c.loop-k.invariant.4,
-      leaves_none side one ws p c.loop-k.k c.loop-k.at z c.loop-k.invariant.7,
-      leaves_none side two ws p c.loop-k.k c.loop-k.at z c.loop-k.invariant.8,
+      writes_none side ws c.args.part z c.switch_base-switch.ensures c.loop.invariant.4,
+      leaves_none side one ws p c.loop.counter c.loop.at z c.loop.invariant.7,
+      leaves_none side two ws p c.loop.counter c.loop.at z c.loop.invariant.8,
     )

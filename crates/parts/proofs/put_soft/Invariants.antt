@@ -8,17 +8,14 @@ use Prim.Native.Nat.{◌+◌, ◌-◌, ◌≤◌}
 use mathlib.Core.Path.{◌≡◌}
 use Rattle.parts.proofs.put_soft.Given as goal
 
-abbrev pub invariant-loop-k : goal.invariant-loop-k
-invariant-loop-k l =
-    (l.k ≤ l.p)
+abbrev pub invariant-loop : goal.invariant-loop
+invariant-loop l =
+    (l.counter ≤ l.p)
     × (l.p ≤ 256)
-    × Ahead l.words (l.p - l.k) l.at
-    × (l.switch ≡ l.initial.switch + l.k)
-    × Writes l.side l.words l.p l.initial.out l.from l.initial.switch l.out l.cursor l.at l.k
-    × (asked l.side one l.words (l.p - l.k) l.at ≤ length l.first)
-    × (asked l.side two l.words (l.p - l.k) l.at ≤ length l.second)
-    × Leaves l.side one l.words (l.p - l.k) l.at l.initial.first l.first
-    × Leaves l.side two l.words (l.p - l.k) l.at l.initial.second l.second
-
-abbrev pub decreases-loop-k : goal.decreases-loop-k
-decreases-loop-k l = l.p - l.k
+    × Ahead l.words (l.p - l.counter) l.at
+    × (l.switch ≡ l.initial.switch + l.counter)
+    × Writes l.side l.words l.p l.initial.out l.from l.initial.switch l.out l.cursor l.at l.counter
+    × (asked l.side one l.words (l.p - l.counter) l.at ≤ length l.first)
+    × (asked l.side two l.words (l.p - l.counter) l.at ≤ length l.second)
+    × Leaves l.side one l.words (l.p - l.counter) l.at l.initial.first l.first
+    × Leaves l.side two l.words (l.p - l.counter) l.at l.initial.second l.second

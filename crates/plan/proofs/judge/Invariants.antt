@@ -10,6 +10,3 @@ abbrev pub invariant-loop-i : goal.invariant-loop-i
 invariant-loop-i l =
     (l.i ≤ l.n)
     × (first_of (value_fault (table_of l.words) l.plan) (λ k. k + 1) (l.n - l.i) l.i ≡ first_of (value_fault (table_of l.words) l.plan) (λ k. k + 1) l.n 0)
-
-abbrev pub decreases-loop-i : goal.decreases-loop-i
-decreases-loop-i l = l.n - l.i

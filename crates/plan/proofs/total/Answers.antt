@@ -15,8 +15,8 @@ overflow_add-at c =
     let b = counted_start c.args.words.now c.args.counts c.requires.0 in
     omega (arith, b.boxes, b.few_boxes)
 
-pub loop-k-init : goal.loop-k-init
-loop-k-init c =
+pub loop-init : goal.loop-init
+loop-init c =
     let ws = c.args.words.now in
     let b = counted_start ws c.args.counts c.requires.0 in (
       omega arith,
@@ -29,45 +29,45 @@ loop-k-init c =
 pub pair_at-pair-requires : goal.pair_at-pair-requires
 pair_at-pair-requires c =
     let a = c.args in
-    (ahead_turn a.words.now c.args.counts.pairs c.loop-k.k c.loop-k.at c.loop-k-test.true c.loop-k.invariant.2).0
+    (ahead_turn a.words.now c.args.counts.pairs c.loop.counter c.loop.at c.loop-test.true c.loop.invariant.2).0
 
 pub charged-sum-requires : goal.charged-sum-requires
 charged-sum-requires c = (
   c.requires.0.table,
   c.requires.1,
-  (ahead_turn c.args.words.now c.args.counts.pairs c.loop-k.k c.loop-k.at c.loop-k-test.true c.loop-k.invariant.2).0,
+  (ahead_turn c.args.words.now c.args.counts.pairs c.loop.counter c.loop.at c.loop-test.true c.loop.invariant.2).0,
   c.pair_at-pair.ensures,
 )
 
 pub overflow_add-sum : goal.overflow_add-sum
 overflow_add-sum c =
-    let S = (ahead_turn c.args.words.now c.args.counts.pairs c.loop-k.k c.loop-k.at c.loop-k-test.true c.loop-k.invariant.2).0 in
+    let S = (ahead_turn c.args.words.now c.args.counts.pairs c.loop.counter c.loop.at c.loop-test.true c.loop.invariant.2).0 in
     omega (
       arith,
       c.charged-sum.ensures,
       charge_light c.args.words.now c.args.plan.now
-          c.loop-k.at S,
-      c.loop-k.invariant.1,
-      c.loop-k.invariant.4,
-      c.loop-k-test.true,
+          c.loop.at S,
+      c.loop.invariant.1,
+      c.loop.invariant.4,
+      c.loop-test.true,
     )
 
-pub loop-k-preserved : goal.loop-k-preserved
-loop-k-preserved c =
+pub loop-preserved : goal.loop-preserved
+loop-preserved c =
     let ws = c.args.words.now in
     let plan = c.args.plan.now in
-    let turn = ahead_turn ws c.args.counts.pairs c.loop-k.k c.loop-k.at c.loop-k-test.true c.loop-k.invariant.2 in
-    let next : c.pair_at-pair.result.next ≡ pair_next ws c.loop-k.at = ap (λ (h : PairHead). h.next) c.pair_at-pair.ensures in
-    let light = charge_light ws plan c.loop-k.at turn.0 in
-    let owed = sum_turn ws (charge plan) c.args.counts.pairs c.loop-k.k c.loop-k.at c.loop-k-test.true in (
-      omega (arith, c.loop-k-test.true),
-      c.loop-k.invariant.1,
+    let turn = ahead_turn ws c.args.counts.pairs c.loop.counter c.loop.at c.loop-test.true c.loop.invariant.2 in
+    let next : c.pair_at-pair.result.next ≡ pair_next ws c.loop.at = ap (λ (h : PairHead). h.next) c.pair_at-pair.ensures in
+    let light = charge_light ws plan c.loop.at turn.0 in
+    let owed = sum_turn ws (charge plan) c.args.counts.pairs c.loop.counter c.loop.at c.loop-test.true in (
+      omega (arith, c.loop-test.true),
+      c.loop.invariant.1,
       rw next turn.1,
-      rw next (omega (arith, owed, c.charged-sum.ensures, c.loop-k.invariant.3)),
-      omega (arith, light, c.charged-sum.ensures, c.loop-k.invariant.4),
+      rw next (omega (arith, owed, c.charged-sum.ensures, c.loop.invariant.3)),
+      omega (arith, light, c.charged-sum.ensures, c.loop.invariant.4),
     )
 
 pub returns : goal.returns
 returns c =
     let ws = c.args.words.now in
-    omega (arith, c.loop-k.invariant.3, sum_last ws (charge c.args.plan.now) c.args.counts.pairs c.loop-k.k c.loop-k.at (omega arith))
+    omega (arith, c.loop.invariant.3, sum_last ws (charge c.args.plan.now) c.args.counts.pairs c.loop.counter c.loop.at (omega arith))

@@ -6,13 +6,10 @@ use Prim.Native.Nat.{◌+◌, ◌-◌, ◌*◌, ◌≤◌}
 use mathlib.Core.Path.{◌≡◌}
 use Rattle.plan.proofs.total.Given as goal
 
-abbrev pub invariant-loop-k : goal.invariant-loop-k
-invariant-loop-k l =
-    (l.k ≤ l.p)
+abbrev pub invariant-loop : goal.invariant-loop
+invariant-loop l =
+    (l.counter ≤ l.p)
     × (l.p ≤ 256)
-    × Ahead l.words (l.p - l.k) l.at
-    × (l.sum + sum_ahead l.words (charge l.plan) (l.p - l.k) l.at ≡ cost (table_of l.words) l.plan)
-    × (l.sum ≤ 1000000 * l.k)
-
-abbrev pub decreases-loop-k : goal.decreases-loop-k
-decreases-loop-k l = l.p - l.k
+    × Ahead l.words (l.p - l.counter) l.at
+    × (l.sum + sum_ahead l.words (charge l.plan) (l.p - l.counter) l.at ≡ cost (table_of l.words) l.plan)
+    × (l.sum ≤ 1000000 * l.counter)

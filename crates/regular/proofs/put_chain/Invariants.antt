@@ -6,14 +6,9 @@ use Rattle.clause.specs.Clause.{entries_of}
 use Rattle.clause.specs.Numbers.{step_from}
 use Rattle.clause.specs.Hard.{chain_at}
 use mathlib.Core.List.{map}
-use Prim.Native.Nat.{◌+◌, ◌-◌, ◌≤◌}
+use Prim.Native.Nat.{◌+◌, ◌-◌}
 use Rattle.regular.proofs.put_chain.Given as goal
 
 abbrev pub invariant-loop-j : goal.invariant-loop-j
 invariant-loop-j l =
-    (3 ≤ l.j)
-    × (l.j ≤ l.m + 1)
-    × Owes l.initial.out l.from (entries_of (chain (step_from l.s) l.m)) l.out l.at (entries_of (map (chain_at (step_from l.s)) (count l.j (l.m + 1 - l.j))))
-
-abbrev pub decreases-loop-j : goal.decreases-loop-j
-decreases-loop-j l = l.m + 1 - l.j
+    Owes l.initial.out l.from (entries_of (chain (step_from l.s) l.m)) l.out l.at (entries_of (map (chain_at (step_from l.s)) (count l.j (l.m + 1 - l.j))))

@@ -7,6 +7,3 @@ use Rattle.row_scan.proofs.mask_of.Given as goal
 
 abbrev pub invariant-loop-j : goal.invariant-loop-j
 invariant-loop-j l = (l.v ≡ value_of (l.m - l.j) (drop (l.at + l.j) l.s)) × (l.j ≤ l.m) × (l.v < 2 ^ (l.m - l.j))
-
-abbrev pub decreases-loop-j : goal.decreases-loop-j
-decreases-loop-j l = l.j

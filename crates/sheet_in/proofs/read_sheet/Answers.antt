@@ -1,37 +1,28 @@
 -- The first three lines are taken one after the other, and then the rest decides.
-use Rattle.sheet_in.proofs.Answers.{at_line, no_hard, no_side, no_boxes, sizes_next, three_lines}
-use Rattle.sheet_in.specs.Parsed.{parsed}
-use mathlib.Core.Path.{refl, sym, ◌∙◌}
+use Rattle.sheet_in.proofs.Answers.{no_hard, no_side, no_boxes}
+use Rattle.std.proofs.lemmas.Result.{err_from_is_err_and}
+use mathlib.Core.Path.{sym, ◌∙◌}
 use Rattle.sheet_in.proofs.read_sheet.Goals as goal
 
-pub returns-in_default : goal.returns-in_default
-returns-in_default c =
+pub returns-in_err-hard : goal.returns-in_err-hard
+returns-in_err-hard c =
     let a = c.args in
-    at_line (parsed a.text.now) a.table.now (no_hard a.text.now (sym c.hard_line.ensures ∙ c.in_default.is)) refl
+    let p = err_from_is_err_and c.from_residual.result c.from_residual.ensures.1 in
+    rw (p.1, p.2) (no_hard a.text.now a.table.now (rw c.hard_line.ensures at c.in_err-hard.ensures.value))
 
-pub returns-in_default-side_line : goal.returns-in_default-side_line
-returns-in_default-side_line c =
+pub returns-in_err-side : goal.returns-in_err-side
+returns-in_err-side c =
     let a = c.args in
-    at_line (parsed a.text.now) a.table.now
-    (no_side a.text.now (sym c.hard_line.ensures ∙ c.in-Found.is)
-    (sym c.side_line.ensures ∙ c.in_default-side_line.is)) refl
+    let p = err_from_is_err_and c.from_residual-in_err-side.result c.from_residual-in_err-side.ensures.1 in
+    rw (p.1, p.2)
+    (no_side a.text.now a.table.now (sym c.hard_line.ensures ∙ c.in_ok-hard.ensures.ok_part)
+    (rw c.side_line.ensures at c.in_err-side.ensures.value))
 
-pub returns-in_default-boxes_line : goal.returns-in_default-boxes_line
-returns-in_default-boxes_line c =
+pub returns-in_err-n : goal.returns-in_err-n
+returns-in_err-n c =
     let a = c.args in
-    at_line (parsed a.text.now) a.table.now
-    (no_boxes a.text.now (sym c.hard_line.ensures ∙ c.in-Found.is)
-    (sym c.side_line.ensures ∙ c.in-Found-side_line.is)
-    (sym c.boxes_line.ensures ∙ c.in_default-boxes_line.is)) refl
-
-pub read_boxes-requires : goal.read_boxes-requires
-read_boxes-requires c =
-    three_lines c.args.text.now (sym c.hard_line.ensures ∙ c.in-Found.is)
-    (sym c.side_line.ensures ∙ c.in-Found-side_line.is)
-    (sym c.boxes_line.ensures ∙ c.in-Found-boxes_line.is)
-
-pub returns : goal.returns
-returns c =
-    rw (sizes_next c.args.text.now (sym c.hard_line.ensures ∙ c.in-Found.is)
-    (sym c.side_line.ensures ∙ c.in-Found-side_line.is)
-    (sym c.boxes_line.ensures ∙ c.in-Found-boxes_line.is)) c.read_boxes.ensures
+    let p = err_from_is_err_and c.from_residual-in_err-n.result c.from_residual-in_err-n.ensures.1 in
+    rw (p.1, p.2)
+    (no_boxes a.text.now a.table.now (sym c.hard_line.ensures ∙ c.in_ok-hard.ensures.ok_part)
+    (sym c.side_line.ensures ∙ c.in_ok-side.ensures.ok_part)
+    (rw c.boxes_line.ensures at c.in_err-n.ensures.value))

@@ -1,4 +1,4 @@
--- Counts, sizes and pairs are put in the body's order.
+-- Counts, sizes and pairs are put in the body's order. The check finds the rest.
 use Rattle.sheet_out.proofs.Parts.{begun, body_long}
 use Rattle.lists.proofs.Stores.{wrote_append}
 use native.Mathlib.Omega.{arith}
@@ -17,42 +17,6 @@ put_boxes-values-requires c =
 
 pub slice_bounds-put_values-end : goal.slice_bounds-put_values-end
 slice_bounds-put_values-end c = omega (arith, (begun c.args.words.now c.args.counts c.requires.0).inside)
-
-pub put_values-count-requires : goal.put_values-count-requires
-put_values-count-requires c =
-    let ws = c.args.words.now in
-    omega (arith, c.requires.1, body_long ws c.args.counts (begun ws c.args.counts c.requires.0), c.put_boxes-values.ensures.next)
-
-pub overflow_cast-p : goal.overflow_cast-p
-overflow_cast-p c =
-    omega
-    (arith, (begun c.args.words.now c.args.counts c.requires.0).few_pairs)
-
-pub put_count-pairs-requires : goal.put_count-pairs-requires
-put_count-pairs-requires c =
-    let ws = c.args.words.now in
-    omega (
-      arith,
-      c.requires.1,
-      body_long ws c.args.counts (begun ws c.args.counts c.requires.0),
-      c.put_boxes-values.ensures.next,
-      c.put_values-count.ensures.next,
-    )
-
-pub put_pairs-requires : goal.put_pairs-requires
-put_pairs-requires c =
-    let ws = c.args.words.now in
-    let B = begun ws c.args.counts c.requires.0 in (
-      B.ahead,
-      omega (
-        arith,
-        c.requires.1,
-        body_long ws c.args.counts B,
-        c.put_boxes-values.ensures.next,
-        c.put_values-count.ensures.next,
-        c.put_count-pairs.ensures.next,
-      ),
-    )
 
 pub returns : goal.returns
 returns c =

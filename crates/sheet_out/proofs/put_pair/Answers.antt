@@ -1,5 +1,5 @@
--- The head's lines, and then a line for each mask.
-use Rattle.sheet_out.proofs.Parts.{head_second, head_next, pair_is, pair_long}
+-- The head's lines, and then a line for each mask. The check finds the rest.
+use Rattle.sheet_out.proofs.Parts.{head_second, pair_is, pair_long}
 use Rattle.lists.proofs.Stores.{wrote_append}
 use native.Mathlib.Omega.{arith}
 use Rattle.sheet_out.proofs.put_pair.Goals as goal
@@ -9,20 +9,6 @@ put_head-rows-requires c = omega (arith, c.requires.2, pair_long c.args.words.no
 
 pub size-requires : goal.size-requires
 size-requires c = head_second c.args.words.now c.args.cursor c.requires.0 c.args.pair c.requires.1
-
-pub slice_bounds-put_rows-count : goal.slice_bounds-put_rows-count
-slice_bounds-put_rows-count c = omega (arith, head_next c.args.words.now c.args.cursor c.requires.0 c.args.pair c.requires.1)
-
-pub slice_bounds-put_rows-start : goal.slice_bounds-put_rows-start
-slice_bounds-put_rows-start c = omega (arith, head_next c.args.words.now c.args.cursor c.requires.0 c.args.pair c.requires.1)
-
-pub slice_bounds-put_rows-end : goal.slice_bounds-put_rows-end
-slice_bounds-put_rows-end c = omega (arith, c.requires.0.ends, head_next c.args.words.now c.args.cursor c.requires.0 c.args.pair c.requires.1)
-
-pub put_rows-requires : goal.put_rows-requires
-put_rows-requires c =
-    rw c.size.ensures
-    (omega (arith, c.requires.2, c.put_head-rows.ensures.next, pair_long c.args.words.now c.args.cursor c.requires.0 c.args.pair c.requires.1))
 
 pub returns : goal.returns
 returns c =

@@ -1,12 +1,8 @@
 -- The lines of the masks that are left are still owed.
-use Rattle.sheet.specs.Sheet.{rows_text}
-use Rattle.lists.specs.Stores.{Owes}
-use lib.ListN.{length, drop}
-use Prim.Native.Nat.{◌-◌}
+use Rattle.text_out.specs.Texts.{row_of}
+use Rattle.text_out.proofs.Listed.{Listed}
+use Rattle.sheet.specs.Keys.{allow_key}
 use Rattle.sheet_out.proofs.put_rows.Given as goal
 
-abbrev pub invariant-loop-i : goal.invariant-loop-i
-invariant-loop-i l = Owes l.initial.text l.from (rows_text l.m l.masks) l.text l.at (rows_text l.m (drop l.i l.masks))
-
-abbrev pub decreases-loop-i : goal.decreases-loop-i
-decreases-loop-i l = length l.masks - l.i
+abbrev pub invariant-loop-mask : goal.invariant-loop-mask
+invariant-loop-mask l = Listed (row_of allow_key l.m) l.initial.text l.from l.masks l.text l.at l.mask-index

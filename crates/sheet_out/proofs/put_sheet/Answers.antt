@@ -1,31 +1,20 @@
--- The two choices' lines and the body, of a sheet that is short.
-use Rattle.sheet.proofs.Sheets.{short_sheet, length_sheet}
+-- The two choices' lines and the body. The sheet of an accepted table is short.
 use Rattle.sheet.specs.Sheet.{sheet_text}
-use Rattle.table.proofs.Round.{accepted_sound}
-use Rattle.table.specs.Words.{table_of}
 use Rattle.lists.proofs.Stores.{wrote_append}
+use Rattle.sheet_out.proofs.Parts.{accepted_short}
 use native.Mathlib.Omega.{arith}
 use Rattle.sheet_out.proofs.put_sheet.Goals as goal
 
 pub put_hard-second-requires : goal.put_hard-second-requires
-put_hard-second-requires c =
-    let t = table_of c.args.words.now in
-    let e = c.args.encoding in
-    omega (arith, length_sheet e.hard e.side t, short_sheet e.hard e.side t (accepted_sound c.args.words.now t c.requires.table))
+put_hard-second-requires c = omega (arith, accepted_short c.args.words.now c.args.encoding.hard c.args.encoding.side c.requires.table)
 
 pub put_side-body-requires : goal.put_side-body-requires
 put_side-body-requires c =
-    let t = table_of c.args.words.now in
-    let e = c.args.encoding in
-    let short = short_sheet e.hard e.side t (accepted_sound c.args.words.now t c.requires.table) in
-    omega (arith, length_sheet e.hard e.side t, c.put_hard-second.ensures.next)
+    omega (arith, c.put_hard-second.ensures.next, accepted_short c.args.words.now c.args.encoding.hard c.args.encoding.side c.requires.table)
 
 pub put_body-requires : goal.put_body-requires
 put_body-requires c =
-    let t = table_of c.args.words.now in
-    let e = c.args.encoding in
-    let short = short_sheet e.hard e.side t (accepted_sound c.args.words.now t c.requires.table) in
-    (c.requires, omega (arith, length_sheet e.hard e.side t, c.put_hard-second.ensures.next, c.put_side-body.ensures.next))
+    (c.requires, omega (arith, c.put_hard-second.ensures.next, c.put_side-body.ensures.next, accepted_short c.args.words.now c.args.encoding.hard c.args.encoding.side c.requires.table))
 
 pub returns : goal.returns
 unfolding sheet_text

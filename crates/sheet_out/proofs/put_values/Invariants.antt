@@ -1,12 +1,8 @@
 -- The lines of the sizes that are left are still owed.
-use Rattle.sheet.specs.Sheet.{values_text}
-use Rattle.lists.specs.Stores.{Owes}
-use lib.ListN.{length, drop}
-use Prim.Native.Nat.{◌-◌}
+use Rattle.text_out.specs.Texts.{line_of}
+use Rattle.text_out.proofs.Listed.{Listed}
+use Rattle.sheet.specs.Keys.{values_key}
 use Rattle.sheet_out.proofs.put_values.Given as goal
 
-abbrev pub invariant-loop-i : goal.invariant-loop-i
-invariant-loop-i l = Owes l.initial.text l.from (values_text l.sizes) l.text l.at (values_text (drop l.i l.sizes))
-
-abbrev pub decreases-loop-i : goal.decreases-loop-i
-decreases-loop-i l = length l.sizes - l.i
+abbrev pub invariant-loop-m : goal.invariant-loop-m
+invariant-loop-m l = Listed (line_of values_key) l.initial.text l.from l.sizes l.text l.at l.m-index

@@ -8,5 +8,5 @@ pub returns : goal.returns
 returns c =
     let a = c.args in
     all_words (pairs_at a.text.now a.sizes.now a.p a.from) (length a.sizes.now) a.p a.sizes.now a.table.now
-    c.put_word.ensures.list c.put_word-2.ensures.list
-    c.put_words-first.ensures c.read_pairs.ensures
+    c.put.ensures.list c.put-2.ensures.list
+    c.put_all-first.ensures c.read_pairs.ensures

@@ -1,36 +1,22 @@
 -- What is left to read gives what the whole gives.
-use Rattle.sheet_parts.proofs.Steps.{rest_all, rest_next, rest_bad, rest_done, filed_one, bad_one}
+use Rattle.sheet_parts.proofs.Steps.{rest_next, rest_bad, rest_done, filed_one, bad_one}
 use Rattle.sheet_parts.proofs.Pairs.{row_moves}
-use mathlib.Core.Path.{sym, ◌∙◌}
+use Rattle.std.proofs.lemmas.Result.{err_from_is_err_and}
 use native.Mathlib.Omega.{arith}
+use mathlib.Core.Path.{refl, sym, ◌∙◌}
 use Rattle.sheet_parts.proofs.read_rows.Goals as goal
 
-pub loop-k-init : goal.loop-k-init
-loop-k-init c = rest_all c.requires.2 c.requires.1
+pub returns-in_err-v : goal.returns-in_err-v
+returns-in_err-v c =
+    let p = err_from_is_err_and c.from_residual.result c.from_residual.ensures.1 in
+    rw (p.1, p.2) (rest_bad c.loop.invariant (omega arith) (bad_one _ (rw c.allow_line.ensures at c.in_err-v.ensures.value)))
 
-pub allow_line-requires : goal.allow_line-requires
-allow_line-requires c = c.requires.0
-
-pub returns-in_default : goal.returns-in_default
-returns-in_default c = rest_bad c.loop-k.invariant (omega arith) (bad_one _ (sym c.allow_line.ensures ∙ c.in_default.is))
-
-pub overflow_add-word : goal.overflow_add-word
-overflow_add-word c =
-    omega (
-      arith,
-      c.loop-k.invariant.pace,
-      c.loop-k.invariant.inside,
-    )
-
-pub overflow_add-k : goal.overflow_add-k
-overflow_add-k c = omega (arith, c.loop-k.invariant.some)
-
-pub loop-k-preserved : goal.loop-k-preserved
-loop-k-preserved c =
+pub loop-preserved : goal.loop-preserved
+loop-preserved c =
     let a = c.args in
-    let e = sym c.allow_line.ensures ∙ c.in-Found.is in
+    let e = sym c.allow_line.ensures ∙ c.in_ok-v.ensures.ok_part in
     let far = row_moves a.text.now a.m _ _ _ e in
-    rest_next c.loop-k.invariant (omega arith) (filed_one _ e c.put_word.ensures.list) (omega (arith, c.loop-k.invariant.pace)) far.1
+    rw c.put-word.ensures.next (rest_next c.loop.invariant (omega arith) (filed_one _ e c.put-word.ensures.list) (omega (arith, c.loop.invariant.pace)) far.1)
 
 pub returns : goal.returns
-returns c = rest_done c.loop-k.invariant (omega arith)
+returns c = rest_done c.loop.invariant (omega arith) refl

@@ -4,8 +4,5 @@ use Prim.Native.Nat.{◌-◌, ◌≤◌}
 use mathlib.Core.Path.{◌≡◌}
 use Rattle.table_check.proofs.pairs.Given as goal
 
-abbrev pub invariant-loop-k : goal.invariant-loop-k
-invariant-loop-k l = (l.k ≤ l.p) × (pairs_fault l.words l.n (l.p - l.k) l.at ≡ pairs_fault l.words l.n l.p l.from) × (pairs_end l.words (l.p - l.k) l.at ≡ pairs_end l.words l.p l.from)
-
-abbrev pub decreases-loop-k : goal.decreases-loop-k
-decreases-loop-k l = l.p - l.k
+abbrev pub invariant-loop : goal.invariant-loop
+invariant-loop l = (l.counter ≤ l.p) × (pairs_fault l.words l.n (l.p - l.counter) l.at ≡ pairs_fault l.words l.n l.p l.from) × (pairs_end l.words (l.p - l.counter) l.at ≡ pairs_end l.words l.p l.from)

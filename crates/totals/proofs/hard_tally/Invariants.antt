@@ -3,16 +3,11 @@ use Rattle.totals.proofs.Counting.{Makes}
 use Rattle.clause.proofs.Turns.{hard_from}
 use Rattle.clause.specs.List.{hard_part}
 use Rattle.table.specs.Words.{table_of}
-use Prim.Native.Nat.{◌+◌, ◌-◌, ◌*◌, ◌≤◌}
+use Prim.Native.Nat.{◌-◌, ◌*◌, ◌≤◌}
 use Rattle.totals.proofs.hard_tally.Given as goal
 
 abbrev pub invariant-loop-b : goal.invariant-loop-b
 invariant-loop-b l =
-    (1 ≤ l.b)
-    × (l.b ≤ l.n + 1)
-    × Makes (record { clauses = l.clauses; literals = l.literals }) (hard_from l.hard (table_of l.words) l.n l.b) (hard_part l.hard (table_of l.words))
+    Makes (record { clauses = l.clauses; literals = l.literals }) (hard_from l.hard (table_of l.words) l.n l.b) (hard_part l.hard (table_of l.words))
     × (l.clauses ≤ 128 * (l.b - 1))
     × (l.literals ≤ 400 * (l.b - 1))
-
-abbrev pub decreases-loop-b : goal.decreases-loop-b
-decreases-loop-b l = l.n + 1 - l.b

@@ -8,14 +8,9 @@ use Rattle.table.specs.Words.{table_of, Ahead}
 use Prim.Native.Nat.{◌-◌, ◌*◌, ◌≤◌}
 use Rattle.totals.proofs.soft_tally.Given as goal
 
-abbrev pub invariant-loop-k : goal.invariant-loop-k
-invariant-loop-k l =
-    (l.k ≤ l.p)
-    × (l.p ≤ 256)
-    × Ahead l.words (l.p - l.k) l.at
-    × Makes (record { clauses = l.clauses; literals = l.literals }) (bare (soft_ahead Standard l.side l.words l.p l.k l.at)) (bare (soft_part Standard l.side (table_of l.words)))
-    × (l.clauses ≤ 256 * l.k)
-    × (l.literals ≤ 1024 * l.k)
-
-abbrev pub decreases-loop-k : goal.decreases-loop-k
-decreases-loop-k l = l.p - l.k
+abbrev pub invariant-loop : goal.invariant-loop
+invariant-loop l =
+    Ahead l.words (l.fn.counts.pairs - l.counter) l.at
+    × Makes (record { clauses = l.clauses; literals = l.literals }) (bare (soft_ahead Standard l.side l.words l.fn.counts.pairs l.counter l.at)) (bare (soft_part Standard l.side (table_of l.words)))
+    × (l.clauses ≤ 256 * l.counter)
+    × (l.literals ≤ 1024 * l.counter)

@@ -7,13 +7,8 @@ use Prim.Native.Nat.{◌+◌, ◌-◌, ◌*◌, ◌≤◌}
 use mathlib.Core.Path.{◌≡◌}
 use Rattle.totals.proofs.top_of.Given as goal
 
-abbrev pub invariant-loop-k : goal.invariant-loop-k
-invariant-loop-k l =
-    (l.k ≤ l.p)
-    × (l.p ≤ 256)
-    × Ahead l.words (l.p - l.k) l.at
-    × (l.sum + sum_ahead l.words weight_of (l.p - l.k) l.at ≡ top (table_of l.words))
-    × (l.sum ≤ 1 + 1000000 * l.k)
-
-abbrev pub decreases-loop-k : goal.decreases-loop-k
-decreases-loop-k l = l.p - l.k
+abbrev pub invariant-loop : goal.invariant-loop
+invariant-loop l =
+    Ahead l.words (l.fn.counts.pairs - l.counter) l.at
+    × (l.sum + sum_ahead l.words weight_of (l.fn.counts.pairs - l.counter) l.at ≡ top (table_of l.words))
+    × (l.sum ≤ 1 + 1000000 * l.counter)

@@ -8,9 +8,9 @@ use Rattle.wcnf_header.proofs.put_ended.Goals as goal
 pub put_number-end-requires : goal.put_number-end-requires
 put_number-end-requires c = let a = c.args in omega (arith, length_ended a.n a.b, c.requires)
 
-pub put_byte-requires : goal.put_byte-requires
-put_byte-requires c = omega (arith, length_ended c.args.n c.args.b, c.requires, c.put_number-end.ensures.next)
+pub put-requires : goal.put-requires
+put-requires c = omega (arith, length_ended c.args.n c.args.b, c.requires, c.put_number-end.ensures.next)
 
 pub returns : goal.returns
 unfolding ended
-returns c = wrote_append c.put_number-end.ensures c.put_byte.ensures
+returns c = wrote_append c.put_number-end.ensures c.put.ensures

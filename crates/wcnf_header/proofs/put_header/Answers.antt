@@ -5,8 +5,8 @@ use Rattle.wcnf.specs.Wcnf.{header_text}
 use native.Mathlib.Omega.{arith}
 use Rattle.wcnf_header.proofs.put_header.Goals as goal
 
-pub put_bytes-one-requires : goal.put_bytes-one-requires
-put_bytes-one-requires c =
+pub put_all-one-requires : goal.put_all-one-requires
+put_all-one-requires c =
     omega (
       arith,
       length_header c.args.variables c.args.clauses c.args.top,
@@ -21,7 +21,7 @@ put_ended-two-requires c =
       length_header c.args.variables c.args.clauses c.args.top,
       header_short _ _ _ c.ranges.variables.fits c.ranges.clauses.fits c.ranges.top.fits,
       c.requires,
-      c.put_bytes-one.ensures.next,
+      c.put_all-one.ensures.next,
     )
 
 pub put_ended-three-requires : goal.put_ended-three-requires
@@ -31,7 +31,7 @@ put_ended-three-requires c =
       length_header c.args.variables c.args.clauses c.args.top,
       header_short _ _ _ c.ranges.variables.fits c.ranges.clauses.fits c.ranges.top.fits,
       c.requires,
-      c.put_bytes-one.ensures.next,
+      c.put_all-one.ensures.next,
       c.put_ended-two.ensures.next,
     )
 
@@ -42,7 +42,7 @@ put_ended-requires c =
       length_header c.args.variables c.args.clauses c.args.top,
       header_short _ _ _ c.ranges.variables.fits c.ranges.clauses.fits c.ranges.top.fits,
       c.requires,
-      c.put_bytes-one.ensures.next,
+      c.put_all-one.ensures.next,
       c.put_ended-two.ensures.next,
       c.put_ended-three.ensures.next,
     )
@@ -50,6 +50,6 @@ put_ended-requires c =
 pub returns : goal.returns
 unfolding header_text
 returns c =
-    let w = wrote_append c.put_bytes-one.ensures
+    let w = wrote_append c.put_all-one.ensures
     (wrote_append c.put_ended-two.ensures (wrote_append c.put_ended-three.ensures c.put_ended.ensures)) in
     (w, omega (arith, w.next, header_short _ _ _ c.ranges.variables.fits c.ranges.clauses.fits c.ranges.top.fits))

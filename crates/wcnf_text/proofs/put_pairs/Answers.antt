@@ -6,7 +6,7 @@ use Rattle.clause.specs.Clause.{plus, minus, entries_of}
 use Rattle.clause.specs.Ends.{one, two}
 use Rattle.clause.specs.Soft.{soft}
 use Rattle.table.proofs.Tables.{counted_start}
-use Rattle.table.proofs.Words.{ahead_turn, accepted_parts}
+use Rattle.table.proofs.Words.{ahead_turn}
 use Rattle.table.specs.Words.{table_of, pair_at}
 use lib.ListN.{length}
 use lib.Seq.{length-sets}
@@ -17,19 +17,8 @@ use mathlib.Core.List.{[], ◌∷◌}
 use mathlib.Core.Path.{◌≡◌, ap, ◌∙◌}
 use Rattle.wcnf_text.proofs.put_pairs.Goals as goal
 
-pub word-n-requires : goal.word-n-requires
-word-n-requires c = (accepted_parts _ c.requires.0.table).boxes.inside
-
-pub switch_base-switch-requires : goal.switch_base-switch-requires
-switch_base-switch-requires c = (c.requires.0.table, c.word-n.ensures)
-
-pub overflow_add-at : goal.overflow_add-at
-overflow_add-at c =
-    let b = counted_start c.args.words.now c.args.counts c.requires.0 in
-    omega (arith, b.boxes, b.few_boxes)
-
-pub loop-k-init : goal.loop-k-init
-loop-k-init c =
+pub loop-init : goal.loop-init
+loop-init c =
     let ws = c.args.words.now in
     let side = c.args.side in
     let n = c.args.counts in
@@ -47,58 +36,49 @@ loop-k-init c =
       omega arith,
     )
 
-pub overflow_add-switch : goal.overflow_add-switch
-overflow_add-switch c =
-    let ws = c.args.words.now in
-    let few = bases_few ws c.requires.0.table c.args.part in
-    omega (arith, few, c.switch_base-switch.ensures, c.loop-k.invariant.3, c.loop-k.invariant.0, c.loop-k.invariant.1)
-
 pub put_pair-end-requires : goal.put_pair-end-requires
 put_pair-end-requires c =
     let ws = c.args.words.now in
     let p = c.args.counts.pairs in
-    let turn = ahead_turn ws p c.loop-k.k c.loop-k.at c.loop-k-test.true c.loop-k.invariant.2 in
+    let turn = ahead_turn ws p c.loop.counter c.loop.at c.loop-test.true c.loop.invariant.2 in
     let is = c.switch_base-switch.ensures in
     let few = bases_few ws c.requires.0.table c.args.part in (
       c.requires.0.table,
       turn.0,
       omega arith,
-      omega (arith, few, is, c.loop-k.invariant.3, c.loop-k.invariant.0, c.loop-k.invariant.1),
-      asked_now c.args.side one ws p c.loop-k.k c.loop-k.at _ c.loop-k-test.true c.loop-k.invariant.5,
-      asked_now c.args.side two ws p c.loop-k.k c.loop-k.at _ c.loop-k-test.true c.loop-k.invariant.6,
-      omega (arith, c.loop-k.invariant.9, c.requires.3),
-      omega (arith, c.loop-k.invariant.10, c.loop-k.invariant.1, c.loop-k-test.true, c.requires.4),
+      omega (arith, few, is, c.loop.invariant.3, c.loop.invariant.0, c.loop.invariant.1),
+      asked_now c.args.side one ws p c.loop.counter c.loop.at _ c.loop-test.true c.loop.invariant.5,
+      asked_now c.args.side two ws p c.loop.counter c.loop.at _ c.loop-test.true c.loop.invariant.6,
+      omega (arith, c.loop.invariant.9, c.requires.3),
+      omega (arith, c.loop.invariant.10, c.loop.invariant.1, c.loop-test.true, c.requires.4),
     )
 
-pub next_pair-at-requires : goal.next_pair-at-requires
-next_pair-at-requires c = (ahead_turn c.args.words.now c.args.counts.pairs c.loop-k.k c.loop-k.at c.loop-k-test.true c.loop-k.invariant.2).0
-
-pub loop-k-preserved : goal.loop-k-preserved
-loop-k-preserved c =
+pub loop-preserved : goal.loop-preserved
+loop-preserved c =
     let ws = c.args.words.now in
     let p = c.args.counts.pairs in
-    let k = c.loop-k.k in
-    let at = c.loop-k.at in
-    let taken = c.loop-k-test.true in
-    let turn = ahead_turn ws p k at taken c.loop-k.invariant.2 in
+    let k = c.loop.counter in
+    let at = c.loop.at in
+    let taken = c.loop-test.true in
+    let turn = ahead_turn ws p k at taken c.loop.invariant.2 in
     let side = c.args.side in
     let wrote = c.put_pair-end.ensures in
     let next = c.next_pair-at.ensures in
-    let v = c.loop-k.switch + 1 in
+    let v = c.loop.switch + 1 in
     let long_first = ap length wrote.1 ∙ with_long side one (table_of ws) (pair_at ws at) _ in
     let long_second = ap length wrote.2 ∙ with_long side two (table_of ws) (pair_at ws at) _ in (
       omega (arith, taken),
-      c.loop-k.invariant.1,
+      c.loop.invariant.1,
       rw next turn.1,
-      omega (arith, c.loop-k.invariant.3),
-      shows_turn side ws p k at turn.0 taken c.loop-k.invariant.3 next wrote.0 c.loop-k.invariant.4,
-      rw (next, long_first) (asked_next side one ws p k at _ taken c.loop-k.invariant.5),
-      rw (next, long_second) (asked_next side two ws p k at _ taken c.loop-k.invariant.6),
-      leaves_turn side one ws p k at taken next wrote.1 c.loop-k.invariant.7,
-      leaves_turn side two ws p k at taken next wrote.2 c.loop-k.invariant.8,
-      ap length wrote.3 ∙ length-sets c.loop-k.clauses 0 (entries_of (soft side (table_of ws) (plus v ∷ []) (minus v ∷ []) (pair_at ws at)))
-          ∙ c.loop-k.invariant.9,
-      omega (arith, wrote.4, c.loop-k.invariant.10),
+      omega (arith, c.loop.invariant.3),
+      shows_turn side ws p k at turn.0 taken c.loop.invariant.3 next wrote.0 c.loop.invariant.4,
+      rw (next, long_first) (asked_next side one ws p k at _ taken c.loop.invariant.5),
+      rw (next, long_second) (asked_next side two ws p k at _ taken c.loop.invariant.6),
+      leaves_turn side one ws p k at taken next wrote.1 c.loop.invariant.7,
+      leaves_turn side two ws p k at taken next wrote.2 c.loop.invariant.8,
+      ap length wrote.3 ∙ length-sets c.loop.clauses 0 (entries_of (soft side (table_of ws) (plus v ∷ []) (minus v ∷ []) (pair_at ws at)))
+          ∙ c.loop.invariant.9,
+      omega (arith, wrote.4, c.loop.invariant.10),
     )
 
 pub returns : goal.returns
@@ -106,9 +86,9 @@ returns c =
     let ws = c.args.words.now in
     let p = c.args.counts.pairs in
     let side = c.args.side in
-    let z : p - c.loop-k.k ≡ 0 = omega (arith, c.loop-k-test.false) in (
-      shows_none side ws c.args.part z c.switch_base-switch.ensures c.loop-k.invariant.4,
-      leaves_none side one ws p c.loop-k.k c.loop-k.at z c.loop-k.invariant.7,
-      leaves_none side two ws p c.loop-k.k c.loop-k.at z c.loop-k.invariant.8,
-      omega (arith, c.loop-k.invariant.10, c.loop-k.invariant.0, c.loop-k.invariant.1),
+    let z : p - c.loop.counter ≡ 0 = omega (arith, c.loop-test.false) in (
+      shows_none side ws c.args.part z c.switch_base-switch.ensures c.loop.invariant.4,
+      leaves_none side one ws p c.loop.counter c.loop.at z c.loop.invariant.7,
+      leaves_none side two ws p c.loop.counter c.loop.at z c.loop.invariant.8,
+      omega (arith, c.loop.invariant.10, c.loop.invariant.0, c.loop.invariant.1),
     )

@@ -8,19 +8,16 @@ use Prim.Native.Nat.{◌+◌, ◌*◌, ◌-◌, ◌≤◌}
 use mathlib.Core.Path.{◌≡◌}
 use Rattle.wcnf_text.proofs.put_pairs.Given as goal
 
-abbrev pub invariant-loop-k : goal.invariant-loop-k
-invariant-loop-k l =
-    (l.k ≤ l.p)
+abbrev pub invariant-loop : goal.invariant-loop
+invariant-loop l =
+    (l.counter ≤ l.p)
     × (l.p ≤ 256)
-    × Ahead l.words (l.p - l.k) l.at
-    × (l.switch ≡ l.initial.switch + l.k)
-    × Shows l.side l.words l.p l.initial.text l.from l.initial.switch l.text l.end l.at l.k
-    × (asked l.side one l.words (l.p - l.k) l.at ≤ length l.first)
-    × (asked l.side two l.words (l.p - l.k) l.at ≤ length l.second)
-    × Leaves l.side one l.words (l.p - l.k) l.at l.initial.first l.first
-    × Leaves l.side two l.words (l.p - l.k) l.at l.initial.second l.second
+    × Ahead l.words (l.p - l.counter) l.at
+    × (l.switch ≡ l.initial.switch + l.counter)
+    × Shows l.side l.words l.p l.initial.text l.from l.initial.switch l.text l.end l.at l.counter
+    × (asked l.side one l.words (l.p - l.counter) l.at ≤ length l.first)
+    × (asked l.side two l.words (l.p - l.counter) l.at ≤ length l.second)
+    × Leaves l.side one l.words (l.p - l.counter) l.at l.initial.first l.first
+    × Leaves l.side two l.words (l.p - l.counter) l.at l.initial.second l.second
     × (length l.clauses ≡ length l.initial.clauses)
-    × (l.end ≤ l.from + 65536 * l.k)
-
-abbrev pub decreases-loop-k : goal.decreases-loop-k
-decreases-loop-k l = l.p - l.k
+    × (l.end ≤ l.from + 65536 * l.counter)

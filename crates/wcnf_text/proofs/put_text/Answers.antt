@@ -1,6 +1,5 @@
 -- The header, the boxes' lines and the pairs' lines after each other.
 use Rattle.wcnf_text.proofs.Texts.{text_put}
-use Rattle.table.proofs.Words.{accepted_parts}
 use Rattle.table.specs.Words.{table_of}
 use lib.ListN.{length, replicate, length-replicate}
 use lib.IntN.{ℤ, pos}
@@ -11,9 +10,6 @@ use Rattle.wcnf_text.proofs.put_text.Goals as goal
 -- the lent array of clauses
 room : length (replicate {A = ℤ} 1024 (pos 0)) ≡ 1024
 room = length-replicate {A = ℤ} 1024 (pos 0)
-
-pub word-n-requires : goal.word-n-requires
-word-n-requires c = (accepted_parts _ c.requires.0.table).boxes.inside
 
 pub put_boxes-pairs-requires : goal.put_boxes-pairs-requires
 put_boxes-pairs-requires c = (

@@ -21,8 +21,8 @@ overflow_add-at c =
     let b = counted_start c.args.words.now c.args.counts c.requires.0 in
     omega (arith, b.boxes, b.few_boxes)
 
-pub loop-k-init : goal.loop-k-init
-loop-k-init c =
+pub loop-init : goal.loop-init
+loop-init c =
     let ws = c.args.words.now in
     let b = counted_start ws c.args.counts c.requires.0 in (
       omega arith,
@@ -35,29 +35,22 @@ pub weigh_pair-cursor-requires : goal.weigh_pair-cursor-requires
 weigh_pair-cursor-requires c =
     let ws = c.args.words.now in
     let p = c.args.counts.pairs in
-    let turn = ahead_turn ws p c.loop-k.k c.loop-k.at c.loop-k-test.true c.loop-k.invariant.2 in
-    let text = weights_turn c.args.side ws p c.loop-k.k c.loop-k.at c.loop-k-test.true in
-    let part = replicate (pair_count c.args.side ws c.loop-k.at) (pair_at ws c.loop-k.at).weight in
-    let fits = owes_room part _ c.loop-k.invariant.3 text c.requires.1 in
-    (c.requires.0.table, turn.0, omega (arith, fits, length-replicate (pair_count c.args.side ws c.loop-k.at) (pair_at ws c.loop-k.at).weight))
+    let turn = ahead_turn ws p c.loop.counter c.loop.at c.loop-test.true c.loop.invariant.2 in
+    let text = weights_turn c.args.side ws p c.loop.counter c.loop.at c.loop-test.true in
+    let part = replicate (pair_count c.args.side ws c.loop.at) (pair_at ws c.loop.at).weight in
+    let fits = owes_room part _ c.loop.invariant.3 text c.requires.1 in
+    (c.requires.0.table, turn.0, omega (arith, fits, length-replicate (pair_count c.args.side ws c.loop.at) (pair_at ws c.loop.at).weight))
 
-pub next_pair-at-requires : goal.next_pair-at-requires
-next_pair-at-requires c =
+pub loop-preserved : goal.loop-preserved
+loop-preserved c =
     let ws = c.args.words.now in
     let p = c.args.counts.pairs in
-    let turn = ahead_turn ws p c.loop-k.k c.loop-k.at c.loop-k-test.true c.loop-k.invariant.2 in
-    turn.0
-
-pub loop-k-preserved : goal.loop-k-preserved
-loop-k-preserved c =
-    let ws = c.args.words.now in
-    let p = c.args.counts.pairs in
-    let turn = ahead_turn ws p c.loop-k.k c.loop-k.at c.loop-k-test.true c.loop-k.invariant.2 in
-    let text = weights_turn c.args.side ws p c.loop-k.k c.loop-k.at c.loop-k-test.true in (
-      omega (arith, c.loop-k-test.true),
-      c.loop-k.invariant.1,
+    let turn = ahead_turn ws p c.loop.counter c.loop.at c.loop-test.true c.loop.invariant.2 in
+    let text = weights_turn c.args.side ws p c.loop.counter c.loop.at c.loop-test.true in (
+      omega (arith, c.loop-test.true),
+      c.loop.invariant.1,
       rw c.next_pair-at.ensures turn.1,
-      rw c.next_pair-at.ensures (owes_part c.loop-k.invariant.3 text c.weigh_pair-cursor.ensures),
+      rw c.next_pair-at.ensures (owes_part c.loop.invariant.3 text c.weigh_pair-cursor.ensures),
     )
 
 pub returns : goal.returns
@@ -65,5 +58,5 @@ unfolding weights
 returns c =
     let ws = c.args.words.now in
     let p = c.args.counts.pairs in
-    let z : p - c.loop-k.k ≡ 0 = omega (arith, c.loop-k-test.false) in
-    owes_none c.loop-k.invariant.3 (ap weights (soft_end Standard c.args.side ws p c.loop-k.k c.loop-k.at z))
+    let z : p - c.loop.counter ≡ 0 = omega (arith, c.loop-test.false) in
+    owes_none c.loop.invariant.3 (ap weights (soft_end Standard c.args.side ws p c.loop.counter c.loop.at z))

@@ -8,12 +8,9 @@ use Rattle.lists.specs.Stores.{Owes}
 use Prim.Native.Nat.{◌-◌, ◌≤◌}
 use Rattle.weights.proofs.weigh_soft.Given as goal
 
-abbrev pub invariant-loop-k : goal.invariant-loop-k
-invariant-loop-k l =
-    (l.k ≤ l.p)
+abbrev pub invariant-loop : goal.invariant-loop
+invariant-loop l =
+    (l.counter ≤ l.p)
     × (l.p ≤ 256)
-    × Ahead l.words (l.p - l.k) l.at
-    × Owes l.initial.out l.from (weights (soft_part Standard l.side (table_of l.words))) l.out l.cursor (weights (soft_ahead Standard l.side l.words l.p l.k l.at))
-
-abbrev pub decreases-loop-k : goal.decreases-loop-k
-decreases-loop-k l = l.p - l.k
+    × Ahead l.words (l.p - l.counter) l.at
+    × Owes l.initial.out l.from (weights (soft_part Standard l.side (table_of l.words))) l.out l.cursor (weights (soft_ahead Standard l.side l.words l.p l.counter l.at))

@@ -1,9 +1,0 @@
--- Each exit is one case of the definition.
-use borrow.Author.Tests.{eq-eqb, ne_eqb}
-use Rattle.list_scan.proofs.passed.Goals as goal
-
-pub returns-then-byte-eq10 : goal.returns-then-byte-eq10
-returns-then-byte-eq10 c = simp (eq-eqb _ _ c.if-byte-eq10.true)
-
-pub returns : goal.returns
-returns c = simp (ne_eqb _ _ c.if-byte-eq10.false)

@@ -1,6 +1,0 @@
--- Within the slice the byte is set, past its end nothing is.
-use Rattle.lists.proofs.Stores.{wrote_out}
-use Rattle.stores.proofs.put_byte.Goals as goal
-
-pub returns : goal.returns
-returns c = wrote_out _ _ _ c.if-at-out.false
