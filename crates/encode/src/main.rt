@@ -9,7 +9,7 @@ ghost use Rattle.table.specs.Answers.{Counted};
 use clause::{Encoding, Hard, Side};
 use refusal::Refusal;
 use std::io::{Read, Write};
-use table::Counts;
+use table::Checked;
 
 // Text is gathered until 65536 bytes are full. No part is longer than that, so a buffer of twice as many holds what stands there and the
 // next part. None says that a write failed: then no more is put and no more is written.
@@ -93,8 +93,7 @@ fn print_pair(
 
 fn print_pairs(
     to: &mut impl Write,
-    words: &[u32],
-    counts: Counts,
+    table: Checked,
     part: Hard,
     side: Side,
     first: &mut [i32],
@@ -103,18 +102,18 @@ fn print_pairs(
     text: &mut [u8],
     from: usize,
 ) -> Option<usize>
-    requires { Counted words.now counts
-        × (1024 ≤ length first.old)
+    requires { (1024 ≤ length first.old)
         × (1024 ≤ length second.old)
         × (1024 ≤ length clauses.old)
         × (from ≤ 65536) }
     ensures { IfSome result (λ end. end ≤ 65536) }
 {
-    let p = counts.pairs;
+    let words = table.words;
+    let p = table.counts.pairs;
     let n = lists::word(words, 0);
     let mut switch = numbers::switch_base(words, n, part);
     let mut end = from;
-    let mut at = counts.boxes + 2;
+    let mut at = table.counts.boxes + 2;
     for _ in 0..p {
         switch += 1;
         end = print_pair(
@@ -126,12 +125,11 @@ fn print_pairs(
 }
 
 // The header, the boxes and the pairs of a checked table. None says that a write failed.
-fn print_all(to: &mut impl Write, words: &[u32], counts: Counts, e: Encoding) -> Option<()>
-    requires { Counted words.now counts }
-{
+fn print_all(to: &mut impl Write, table: Checked, e: Encoding) -> Option<()> {
+    let words = table.words;
     let part = e.hard;
     let side = e.side;
-    let needed = measure::measure(words, counts, e);
+    let needed = measure::measure(table, e);
     let top = needed.top;
     let n = lists::word(words, 0);
     let mut first = [0i32; 1024];
@@ -148,8 +146,7 @@ fn print_all(to: &mut impl Write, words: &[u32], counts: Counts, e: Encoding) ->
     let boxes = print_boxes(to, words, n, part, top, &mut clauses, &mut text, head)?;
     let end = print_pairs(
         to,
-        words,
-        counts,
+        table,
         part,
         side,
         &mut first,
@@ -168,7 +165,7 @@ fn judge(to: &mut impl Write, sheet: &[u8]) -> Result<(), Refusal> {
     let read = sheet_in::read_sheet(sheet, &mut table)?;
     let words = &table[..read.words];
     let (e, counts) = asked::ask(words, read.hard, read.side)?;
-    print_all(to, words, counts, e);
+    print_all(to, Checked { words, counts }, e);
     Ok(())
 }
 

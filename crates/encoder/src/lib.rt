@@ -2,35 +2,33 @@
 #![tactic(auto)]
 
 ghost use Rattle.table.specs.Words.{table_of, judged};
-ghost use Rattle.table.specs.Answers.{Counted};
+ghost use Rattle.table.specs.Checked.{table_in};
 ghost use Rattle.clause.specs.Encodings.{picked_of};
 ghost use Rattle.encoder.specs.Encoded.{judged_room, verdict, Outcomes};
 
 use clause::Encoding;
 pub use clauses_out::Written;
 use refusal::Refusal;
-use table::Counts;
+use table::Checked;
 
 // The list of a checked table, if the buffers hold it.
 #[tactic(auto, using(refusal::proofs::Results::judged_fine, refusal::proofs::Results::judged_wrong, crate::proofs::Judged::refusal_left, crate::proofs::Judged::list_left, room::proofs::Fits::clauses_hold))]
 fn encode_checked(
-    words: &[u32],
-    counts: Counts,
+    table: Checked,
     e: Encoding,
     first: &mut [i32],
     second: &mut [i32],
     literals: &mut [i32],
     weights: &mut [u64],
 ) -> Result<Written, Refusal>
-    requires { Counted words.now counts }
     ensures { Outcomes
-        (judged_room e (table_of words.now) first.old second.old literals.old weights.old)
+        (judged_room e (table_in table.entry) first.old second.old literals.old weights.old)
         first.old second.old literals.old weights.old
         result first.new second.new literals.new weights.new }
 {
     let side = e.side;
-    let needed = measure::measure(words, counts, e);
-    let scratch = measure::scratch_over(words, counts, side);
+    let needed = measure::measure(table, e);
+    let scratch = measure::scratch_over(table, side);
     room::for_clauses(
         needed,
         scratch,
@@ -39,7 +37,7 @@ fn encode_checked(
         literals.len(),
         weights.len(),
     )?;
-    Ok(clauses_out::write_all(words, counts, e, first, second, literals, weights))
+    Ok(clauses_out::write_all(table, e, first, second, literals, weights))
 }
 
 // The clause list of a table: 8 for an unknown encoding, then 1 to 7, then 9 for the first buffer that is too short.
@@ -59,5 +57,12 @@ pub fn encode(
         result first.new second.new literals.new weights.new }
 {
     let (e, counts) = asked::ask(words, hard, side)?;
-    encode_checked(words, counts, e, first, second, literals, weights)
+    encode_checked(
+        Checked { words, counts },
+        e,
+        first,
+        second,
+        literals,
+        weights,
+    )
 }

@@ -13,7 +13,7 @@ ghost use Rattle.maker.specs.Rows.{first_in, due_in, row_of, rows_of};
 
 use clause::{Encoding, Hard, Side};
 use refusal::Refusal;
-use table::Counts;
+use table::Checked;
 
 // Which variables of a box a row is for.
 #[derive(Clone, Copy)]
@@ -99,20 +99,14 @@ fn put_list(words: &[u32], hard: Hard, side: Side, plan: &[u32], list: &mut [u8]
 
 // The answer over an accepted table.
 #[tactic(auto, using(refusal::proofs::Results::judged_fine, refusal::proofs::Results::judged_wrong, crate::proofs::Long::made_long, plan::proofs::Plans::fine_plan), unfolding(decoder::specs::Answers::make_fault))]
-fn answer(
-    words: &[u32],
-    counts: Counts,
-    e: Encoding,
-    plan: &[u32],
-    list: &mut [u8],
-) -> Result<usize, Refusal>
-    requires { Counted words.now counts }
-    ensures { (result ≡ made_of (Ok e) (judged words.now) plan.now (length list.old))
-        × (list.new ≡ list_after (Ok e) (judged words.now) plan.now list.old) }
+fn answer(table: Checked, e: Encoding, plan: &[u32], list: &mut [u8]) -> Result<usize, Refusal>
+    ensures { (result ≡ made_of (Ok e) (judged table.entry.words.now) plan.now (length list.old))
+        × (list.new ≡ list_after (Ok e) (judged table.entry.words.now) plan.now list.old) }
 {
+    let words = table.words;
     let hard = e.hard;
     let side = e.side;
-    plan::judge(words, counts.boxes, plan)?;
+    plan::judge(words, table.counts.boxes, plan)?;
     let needed = list_judge::variables(words, hard, side);
     if list.len() < needed {
         return Err(Refusal::Room(needed));
@@ -133,5 +127,5 @@ pub fn make_list(
         × (list.new ≡ list_after (picked_of hard side) (judged words.now) plan.now list.old) }
 {
     let (e, counts) = asked::ask(words, hard, side)?;
-    answer(words, counts, e, plan, list)
+    answer(Checked { words, counts }, e, plan, list)
 }

@@ -4,7 +4,7 @@
 ghost use Rattle.std.specs.Prelude.{◌≡◌, ◌+◌, ◌^◌, ◌<◌, length};
 ghost use Rattle.lists.specs.Stores.{Wrote};
 ghost use Rattle.table.specs.Words.{pair_at, pairs_at, table_of, PairStands, Ahead};
-ghost use Rattle.table.specs.Answers.{Counted};
+ghost use Rattle.table.specs.Checked.{table_in};
 ghost use Rattle.reader.specs.Reader.{head_at_lem};
 ghost use Rattle.sheet.specs.Sheet.{values_text, rows_text, pair_text, pairs_text, body_text, sheet_text};
 ghost use Rattle.sheet_out.specs.Written.{of_table, sheet_of, written_of, text_left};
@@ -12,7 +12,7 @@ ghost use Rattle.sheet_out.specs.Written.{of_table, sheet_of, written_of, text_l
 use clause::Encoding;
 use reader::PairHead;
 use refusal::Refusal;
-use table::Counts;
+use table::Checked;
 
 // A line for each domain size.
 #[tactic(auto, using(text_out::proofs::Listed::listed_none, text_out::proofs::Listed::listed_room, text_out::proofs::Listed::listed_all), unfolding(sheet::specs::Sheet::values_text))]
@@ -73,12 +73,13 @@ fn put_pairs(text: &mut [u8], from: usize, words: &[u32], first: usize, p: usize
 
 // What follows the lines of the two choices.
 #[tactic(auto, using(crate::proofs::Parts::begun, crate::proofs::Parts::body_long))]
-fn put_body(text: &mut [u8], at: usize, words: &[u32], counts: Counts) -> usize
-    requires { Counted words.now counts × (at + length (body_text (table_of words.now)) < 2 ^ 64) }
-    ensures { Wrote text.old at (body_text (table_of words.now)) result text.new }
+fn put_body(text: &mut [u8], at: usize, table: Checked) -> usize
+    requires { at + length (body_text (table_in table)) < 2 ^ 64 }
+    ensures { Wrote text.old at (body_text (table_in table.entry)) result text.new }
 {
-    let n = counts.boxes;
-    let p = counts.pairs;
+    let words = table.words;
+    let n = table.counts.boxes;
+    let p = table.counts.pairs;
     let first = n + 2;
     let values = sheet::put_boxes(text, at, n as u32);
     let count = put_values(text, values, &words[2..first]);
@@ -86,35 +87,28 @@ fn put_body(text: &mut [u8], at: usize, words: &[u32], counts: Counts) -> usize
     put_pairs(text, pairs, words, first, p)
 }
 
-fn put_sheet(text: &mut [u8], words: &[u32], counts: Counts, encoding: Encoding) -> usize
-    requires { Counted words.now counts }
-    ensures { Wrote text.old 0 (sheet_text encoding.hard encoding.side (table_of words.now)) result text.new }
+fn put_sheet(text: &mut [u8], table: Checked, encoding: Encoding) -> usize
+    ensures { Wrote text.old 0 (sheet_text encoding.hard encoding.side (table_in table.entry)) result text.new }
 {
     let hard = encoding.hard;
     let side = encoding.side;
     let second = sheet::put_hard(text, 0, hard);
     let body = sheet::put_side(text, second, side);
-    put_body(text, body, words, counts)
+    put_body(text, body, table)
 }
 
 // The answer over an accepted table.
 #[tactic(auto, using(crate::proofs::Answers::too_short, crate::proofs::Answers::long_enough))]
-fn write_table(
-    words: &[u32],
-    counts: Counts,
-    encoding: Encoding,
-    text: &mut [u8],
-) -> Result<usize, Refusal>
-    requires { Counted words.now counts }
-    ensures { (result ≡ written_of (of_table encoding (table_of words.now)) (length text.old))
-        × (text.new ≡ text_left (of_table encoding (table_of words.now)) text.old) }
+fn write_table(table: Checked, encoding: Encoding, text: &mut [u8]) -> Result<usize, Refusal>
+    ensures { (result ≡ written_of (of_table encoding (table_in table.entry)) (length text.old))
+        × (text.new ≡ text_left (of_table encoding (table_in table.entry)) text.old) }
 {
     let mut none = [0u8; 1];
-    let needed = put_sheet(&mut none, words, counts, encoding);
+    let needed = put_sheet(&mut none, table, encoding);
     if text.len() < needed {
         return Err(Refusal::Room(needed));
     }
-    put_sheet(text, words, counts, encoding);
+    put_sheet(text, table, encoding);
     Ok(needed)
 }
 
@@ -125,5 +119,5 @@ pub fn write_sheet(words: &[u32], hard: u32, side: u32, text: &mut [u8]) -> Resu
         × (text.new ≡ text_left (sheet_of words.now hard side) text.old) }
 {
     let (encoding, counts) = asked::ask(words, hard, side)?;
-    write_table(words, counts, encoding, text)
+    write_table(Checked { words, counts }, encoding, text)
 }

@@ -3,7 +3,7 @@
 
 ghost use Rattle.std.specs.Prelude.{◌≡◌, ◌≤◌, length};
 ghost use Rattle.table.specs.Words.{table_of, judged};
-ghost use Rattle.table.specs.Answers.{Counted};
+ghost use Rattle.table.specs.Checked.{table_in};
 ghost use Rattle.clause.specs.Ends.{one, two};
 ghost use Rattle.clause.specs.Encodings.{picked_of};
 ghost use Rattle.clause.specs.Lengths.{scratch_length};
@@ -14,29 +14,27 @@ ghost use Rattle.wcnf_out.specs.Written.{judged_room, verdict, Outcomes};
 use clause::Encoding;
 use measure::Lengths;
 use refusal::Refusal;
-use table::Counts;
+use table::Checked;
 
 // The text, into buffers that were judged to hold it.
 fn write_text(
-    words: &[u32],
-    counts: Counts,
+    table: Checked,
     e: Encoding,
     needed: Lengths,
     first: &mut [i32],
     second: &mut [i32],
     text: &mut [u8],
 ) -> Result<usize, Refusal>
-    requires { Counted words.now counts
-        × (needed ≡ lengths_for e (table_of words.now))
-        × (scratch_length e.side one (table_of words.now) ≤ length first.old)
-        × (scratch_length e.side two (table_of words.now) ≤ length second.old) }
+    requires { (needed ≡ lengths_for e (table_in table))
+        × (scratch_length e.side one (table_in table) ≤ length first.old)
+        × (scratch_length e.side two (table_in table) ≤ length second.old) }
     ensures { Outcomes
-        (yes e (table_of words.now))
+        (yes e (table_in table.entry))
         first.old second.old text.old
         result first.new second.new text.new }
 {
     let side = e.side;
-    let long = wcnf_text::put_text(words, counts, e, needed, first, second, text);
+    let long = wcnf_text::put_text(table, e, needed, first, second, text);
     whole::tidy(side, first);
     whole::tidy(side, second);
     Ok(long)
@@ -45,25 +43,23 @@ fn write_text(
 // The text of a checked table, if the buffers hold it.
 #[tactic(auto, using(refusal::proofs::Results::judged_fine, refusal::proofs::Results::judged_wrong, crate::proofs::Answers::refusal_left, room::proofs::Fits::text_holds))]
 fn write_checked(
-    words: &[u32],
-    counts: Counts,
+    table: Checked,
     e: Encoding,
     first: &mut [i32],
     second: &mut [i32],
     text: &mut [u8],
 ) -> Result<usize, Refusal>
-    requires { Counted words.now counts }
     ensures { Outcomes
-        (judged_room e (table_of words.now) (length first.old) (length second.old) (length text.old))
+        (judged_room e (table_in table.entry) (length first.old) (length second.old) (length text.old))
         first.old second.old text.old
         result first.new second.new text.new }
 {
     let side = e.side;
-    let scratch = measure::scratch_over(words, counts, side);
-    let needed = measure::measure(words, counts, e);
-    let long = wcnf_text::text_length(words, counts, e, needed);
+    let scratch = measure::scratch_over(table, side);
+    let needed = measure::measure(table, e);
+    let long = wcnf_text::text_length(table, e, needed);
     room::for_text(scratch, long, first.len(), second.len(), text.len())?;
-    write_text(words, counts, e, needed, first, second, text)
+    write_text(table, e, needed, first, second, text)
 }
 
 // WCNF text of a table: 8 for an unknown encoding, then 1 to 7, then 9 for the first buffer that is too short.
@@ -82,5 +78,5 @@ pub fn write_wcnf(
         result first.new second.new text.new }
 {
     let (e, counts) = asked::ask(words, hard, side)?;
-    write_checked(words, counts, e, first, second, text)
+    write_checked(Checked { words, counts }, e, first, second, text)
 }

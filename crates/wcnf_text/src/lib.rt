@@ -5,7 +5,7 @@
 ghost use Rattle.std.specs.Prelude.{◌≡◌, ◌+◌, ◌^◌, ◌≤◌, ◌<◌, length};
 ghost use Rattle.lists.specs.Stores.{Wrote};
 ghost use Rattle.table.specs.Words.{box_count, table_of, Accepted};
-ghost use Rattle.table.specs.Answers.{Counted};
+ghost use Rattle.table.specs.Checked.{table_in};
 ghost use Rattle.clause.specs.Ends.{one, two};
 ghost use Rattle.clause.specs.List.{hard_part, soft_part};
 ghost use Rattle.clause.specs.Lengths.{scratch_length, top};
@@ -16,7 +16,7 @@ ghost use Rattle.wcnf_text.specs.Text.{text_of};
 
 use clause::{Encoding, Hard, Side};
 use measure::Lengths;
-use table::Counts;
+use table::Checked;
 
 // The lines of the boxes.
 fn put_boxes(
@@ -46,8 +46,7 @@ fn put_boxes(
 // The lines of the pairs.
 #[tactic(auto, using(parts::proofs::Writing::head_inside, parts::proofs::Writing::boxes_few, table::proofs::Words::ahead_turn, numbers::proofs::Counted::bases_few))]
 fn put_pairs(
-    words: &[u32],
-    counts: Counts,
+    table: Checked,
     part: Hard,
     side: Side,
     first: &mut [i32],
@@ -56,23 +55,23 @@ fn put_pairs(
     text: &mut [u8],
     from: usize,
 ) -> usize
-    requires { Counted words.now counts
-        × (scratch_length side one (table_of words.now) ≤ length first.old)
-        × (scratch_length side two (table_of words.now) ≤ length second.old)
+    requires { (scratch_length side one (table_in table) ≤ length first.old)
+        × (scratch_length side two (table_in table) ≤ length second.old)
         × (1024 ≤ length clauses.old)
         × (from + 16777216 < 2 ^ 64) }
     ensures { Wrote text.old from
-        (body_text (top (table_of words.now)) (soft_part part side (table_of words.now)))
+        (body_text (top (table_in table.entry)) (soft_part part side (table_in table.entry)))
         result text.new
-        × (first.new ≡ scratch_through side one (table_of words.now) (table_of words.now).pairs first.old)
-        × (second.new ≡ scratch_through side two (table_of words.now) (table_of words.now).pairs second.old)
+        × (first.new ≡ scratch_through side one (table_in table.entry) (table_in table.entry).pairs first.old)
+        × (second.new ≡ scratch_through side two (table_in table.entry) (table_in table.entry).pairs second.old)
         × (result ≤ from + 16777216) }
 {
-    let p = counts.pairs;
+    let words = table.words;
+    let p = table.counts.pairs;
     let n = lists::word(words, 0);
     let mut switch = numbers::switch_base(words, n, part);
     let mut end = from;
-    let mut at = counts.boxes + 2;
+    let mut at = table.counts.boxes + 2;
     for _ in 0..p {
         switch += 1;
         end = wcnf_parts::put_pair(words, side, switch, at, first, second, clauses, text, end);
@@ -84,24 +83,23 @@ fn put_pairs(
 // The whole text.
 #[tactic(auto, using(parts::proofs::Writing::head_inside))]
 pub fn put_text(
-    words: &[u32],
-    counts: Counts,
+    table: Checked,
     e: Encoding,
     needed: Lengths,
     first: &mut [i32],
     second: &mut [i32],
     text: &mut [u8],
 ) -> usize
-    requires { Counted words.now counts
-        × (needed ≡ lengths_for e (table_of words.now))
-        × (scratch_length e.side one (table_of words.now) ≤ length first.old)
-        × (scratch_length e.side two (table_of words.now) ≤ length second.old) }
-    ensures { Wrote text.old 0 (text_of e (table_of words.now)) result text.new
+    requires { (needed ≡ lengths_for e (table_in table))
+        × (scratch_length e.side one (table_in table) ≤ length first.old)
+        × (scratch_length e.side two (table_in table) ≤ length second.old) }
+    ensures { Wrote text.old 0 (text_of e (table_in table.entry)) result text.new
         × (first.new
-        ≡ scratch_through e.side one (table_of words.now) (table_of words.now).pairs first.old)
+        ≡ scratch_through e.side one (table_in table.entry) (table_in table.entry).pairs first.old)
         × (second.new
-        ≡ scratch_through e.side two (table_of words.now) (table_of words.now).pairs second.old) }
+        ≡ scratch_through e.side two (table_in table.entry) (table_in table.entry).pairs second.old) }
 {
+    let words = table.words;
     let part = e.hard;
     let side = e.side;
     let n = lists::word(words, 0);
@@ -110,26 +108,16 @@ pub fn put_text(
     let count = needed.clauses as u64;
     let boxes = wcnf_header::put_header(text, 0, variables, count, needed.top);
     let pairs = put_boxes(words, n, part, needed.top, &mut clauses, text, boxes);
-    put_pairs(
-        words,
-        counts,
-        part,
-        side,
-        first,
-        second,
-        &mut clauses,
-        text,
-        pairs,
-    )
+    put_pairs(table, part, side, first, second, &mut clauses, text, pairs)
 }
 
 // How long the text is. Nothing that is lent is touched.
-pub fn text_length(words: &[u32], counts: Counts, e: Encoding, needed: Lengths) -> usize
-    requires { Counted words.now counts × (needed ≡ lengths_for e (table_of words.now)) }
-    ensures { result ≡ length (text_of e (table_of words.now)) }
+pub fn text_length(table: Checked, e: Encoding, needed: Lengths) -> usize
+    requires { needed ≡ lengths_for e (table_in table) }
+    ensures { result ≡ length (text_of e (table_in table.entry)) }
 {
     let mut first = [0i32; 1024];
     let mut second = [0i32; 1024];
     let mut none = [0u8; 1];
-    put_text(words, counts, e, needed, &mut first, &mut second, &mut none)
+    put_text(table, e, needed, &mut first, &mut second, &mut none)
 }

@@ -4,5 +4,5 @@ use Rattle.clause.specs.Encodings.{picked_of}
 use mathlib.Core.Path.{sym}
 use Rattle.encode.proofs.judge.Goals as goal
 
-pub print_all-requires : goal.print_all-requires
-print_all-requires g c = (asked_ready (picked_of _ _) _ (sym c.in_ok-e.ensures)).counted
+pub invariant_of-print_all : goal.invariant_of-print_all
+invariant_of-print_all g c = record { counted = (asked_ready (picked_of _ _) _ (sym c.in_ok-e.ensures)).counted }

@@ -3,4 +3,4 @@ use Rattle.table.proofs.Words.{accepted_parts}
 use Rattle.encode.proofs.print_all.Goals as goal
 
 pub word-n-requires : goal.word-n-requires
-word-n-requires g c = (accepted_parts _ c.requires.table).boxes.inside
+word-n-requires g c = (accepted_parts _ c.args.table.counted.table).boxes.inside

@@ -13,26 +13,26 @@ use Rattle.measure.proofs.longest_list.Goals as goal
 
 pub overflow_add-at : goal.overflow_add-at
 overflow_add-at c =
-    let b = counted_start c.args.words.now c.args.counts c.requires in
+    let b = counted_start c.args.table.words.now c.args.table.counts c.args.table.counted in
     omega arith
 
 pub loop-init : goal.loop-init
 loop-init c =
-    let ws = c.args.words.now in
-    let b = counted_start ws c.args.counts c.requires in
+    let ws = c.args.table.words.now in
+    let b = counted_start ws c.args.table.counts c.args.table.counted in
     (rw sub-zero b.ahead, rw (sub-zero, b.pairs, b.boxes) (longest_all (candidate_length_lem (table_of ws) (which_by c.args.second)) ws))
 
 pub candidate-requires : goal.candidate-requires
 candidate-requires c =
-    (c.requires.table, (ahead_turn c.args.words.now c.args.counts.pairs c.loop.counter c.loop.at c.loop-test.true c.loop.invariant.0).0)
+    (c.args.table.counted.table, (ahead_turn c.args.table.words.now c.args.table.counts.pairs c.loop.counter c.loop.at c.loop-test.true c.loop.invariant.0).0)
 
 pub next_pair-at-requires : goal.next_pair-at-requires
-next_pair-at-requires c = (ahead_turn c.args.words.now c.args.counts.pairs c.loop.counter c.loop.at c.loop-test.true c.loop.invariant.0).0
+next_pair-at-requires c = (ahead_turn c.args.table.words.now c.args.table.counts.pairs c.loop.counter c.loop.at c.loop-test.true c.loop.invariant.0).0
 
 pub loop-preserved : goal.loop-preserved
 loop-preserved c =
-    let ws = c.args.words.now in
-    let p = c.args.counts.pairs in
+    let ws = c.args.table.words.now in
+    let p = c.args.table.counts.pairs in
     let turn = ahead_turn ws p c.loop.counter c.loop.at c.loop-test.true c.loop.invariant.0 in
     let f = candidate_length_lem (table_of ws) (which_by c.args.second) in
     let new = c.max-best.ensures ∙ ap (max c.loop.best) c.candidate.ensures in (
@@ -42,7 +42,7 @@ loop-preserved c =
 
 pub returns : goal.returns
 returns c =
-    let ws = c.args.words.now in
-    let z : c.args.counts.pairs - c.loop.counter ≡ 0 = omega arith in
-    longest_last (candidate_length_lem (table_of ws) (which_by c.args.second)) ws c.args.counts.pairs c.loop.counter c.loop.at c.loop.best _ z
+    let ws = c.args.table.words.now in
+    let z : c.args.table.counts.pairs - c.loop.counter ≡ 0 = omega arith in
+    longest_last (candidate_length_lem (table_of ws) (which_by c.args.second)) ws c.args.table.counts.pairs c.loop.counter c.loop.at c.loop.best _ z
     c.loop.invariant.1

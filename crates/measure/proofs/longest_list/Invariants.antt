@@ -9,5 +9,5 @@ use Rattle.measure.proofs.longest_list.Given as goal
 abbrev pub invariant-loop : goal.invariant-loop
 invariant-loop l =
     let f = candidate_length_lem (table_of l.words) (which_by l.second) in
-    Ahead l.words (l.fn.counts.pairs - l.counter) l.at
-    × (max l.best (longest f (pairs_at l.words (l.fn.counts.pairs - l.counter) l.at)) ≡ longest f (table_of l.words).pairs)
+    Ahead l.words (l.fn.table.counts.pairs - l.counter) l.at
+    × (max l.best (longest f (pairs_at l.words (l.fn.table.counts.pairs - l.counter) l.at)) ≡ longest f (table_of l.words).pairs)

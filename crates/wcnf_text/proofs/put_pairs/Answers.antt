@@ -19,44 +19,44 @@ use Rattle.wcnf_text.proofs.put_pairs.Goals as goal
 
 pub loop-init : goal.loop-init
 loop-init c =
-    let ws = c.args.words.now in
+    let ws = c.args.table.words.now in
     let side = c.args.side in
-    let n = c.args.counts in
-    let b = counted_start ws n c.requires.0 in (
+    let n = c.args.table.counts in
+    let b = counted_start ws n c.args.table.counted in (
       omega arith,
       omega (arith, b.pairs, b.few_pairs),
       rw sub-zero b.ahead,
       omega arith,
-      shows_all side ws n c.requires.0,
-      rw (asked_all side one ws n c.requires.0) c.requires.1,
-      rw (asked_all side two ws n c.requires.0) c.requires.2,
-      leaves_all side one ws n c.requires.0 _,
-      leaves_all side two ws n c.requires.0 _,
+      shows_all side ws n c.args.table.counted,
+      rw (asked_all side one ws n c.args.table.counted) c.requires.0,
+      rw (asked_all side two ws n c.args.table.counted) c.requires.1,
+      leaves_all side one ws n c.args.table.counted _,
+      leaves_all side two ws n c.args.table.counted _,
       omega arith,
       omega arith,
     )
 
 pub put_pair-end-requires : goal.put_pair-end-requires
 put_pair-end-requires c =
-    let ws = c.args.words.now in
-    let p = c.args.counts.pairs in
+    let ws = c.args.table.words.now in
+    let p = c.args.table.counts.pairs in
     let turn = ahead_turn ws p c.loop.counter c.loop.at c.loop-test.true c.loop.invariant.2 in
     let is = c.switch_base-switch.ensures in
-    let few = bases_few ws c.requires.0.table c.args.part in (
-      c.requires.0.table,
+    let few = bases_few ws c.args.table.counted.table c.args.part in (
+      c.args.table.counted.table,
       turn.0,
       omega arith,
       omega (arith, few, is, c.loop.invariant.3, c.loop.invariant.0, c.loop.invariant.1),
       asked_now c.args.side one ws p c.loop.counter c.loop.at _ c.loop-test.true c.loop.invariant.5,
       asked_now c.args.side two ws p c.loop.counter c.loop.at _ c.loop-test.true c.loop.invariant.6,
-      omega (arith, c.loop.invariant.9, c.requires.3),
-      omega (arith, c.loop.invariant.10, c.loop.invariant.1, c.loop-test.true, c.requires.4),
+      omega (arith, c.loop.invariant.9, c.requires.2),
+      omega (arith, c.loop.invariant.10, c.loop.invariant.1, c.loop-test.true, c.requires.3),
     )
 
 pub loop-preserved : goal.loop-preserved
 loop-preserved c =
-    let ws = c.args.words.now in
-    let p = c.args.counts.pairs in
+    let ws = c.args.table.words.now in
+    let p = c.args.table.counts.pairs in
     let k = c.loop.counter in
     let at = c.loop.at in
     let taken = c.loop-test.true in
@@ -83,8 +83,8 @@ loop-preserved c =
 
 pub returns : goal.returns
 returns c =
-    let ws = c.args.words.now in
-    let p = c.args.counts.pairs in
+    let ws = c.args.table.words.now in
+    let p = c.args.table.counts.pairs in
     let side = c.args.side in
     let z : p - c.loop.counter ≡ 0 = omega (arith, c.loop-test.false) in (
       shows_none side ws c.args.part z c.switch_base-switch.ensures c.loop.invariant.4,
