@@ -41,7 +41,7 @@ fn priced(table: Checked, list: &[u8], plan: &mut [u32]) -> u64
 {
     let words = table.words;
     let n = put_plan(words, list, plan);
-    plan::total(table, &plan[..n])
+    plan::total(words, table.counts, &plan[..n])
 }
 
 // The answer over an accepted table.

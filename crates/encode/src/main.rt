@@ -129,7 +129,7 @@ fn print_all(to: &mut impl Write, table: Checked, e: Encoding) -> Option<()> {
     let words = table.words;
     let part = e.hard;
     let side = e.side;
-    let needed = measure::measure(table, e);
+    let needed = measure::measure(words, table.counts, e);
     let top = needed.top;
     let n = lists::word(words, 0);
     let mut first = [0i32; 1024];

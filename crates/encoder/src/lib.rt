@@ -26,9 +26,10 @@ fn encode_checked(
         first.old second.old literals.old weights.old
         result first.new second.new literals.new weights.new }
 {
-    let side = e.side;
-    let needed = measure::measure(table, e);
-    let scratch = measure::scratch_over(table, side);
+    let words = table.words;
+    let counts = table.counts;
+    let needed = measure::measure(words, counts, e);
+    let scratch = measure::scratch_over(words, counts, e.side);
     room::for_clauses(
         needed,
         scratch,
@@ -37,7 +38,7 @@ fn encode_checked(
         literals.len(),
         weights.len(),
     )?;
-    Ok(clauses_out::write_all(table, e, first, second, literals, weights))
+    Ok(clauses_out::write_all(words, counts, e, first, second, literals, weights))
 }
 
 // The clause list of a table: 8 for an unknown encoding, then 1 to 7, then 9 for the first buffer that is too short.

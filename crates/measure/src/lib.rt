@@ -3,6 +3,7 @@
 
 ghost use Rattle.std.specs.Prelude.{◌≡◌};
 ghost use Rattle.table.specs.Words.{table_of, judged, pair_at, Accepted, PairStands};
+ghost use Rattle.table.specs.Answers.{Counted};
 ghost use Rattle.table.specs.Checked.{table_in};
 ghost use Rattle.clause.specs.Encodings.{picked_of};
 ghost use Rattle.clause.specs.Lengths.{longest, candidate_length_lem};
@@ -10,7 +11,7 @@ ghost use Rattle.measure.specs.Measures.{lengths_for, longest_lists_lem, scratch
 
 use clause::{Encoding, Side};
 use refusal::Refusal;
-use table::Checked;
+use table::{Checked, Counts};
 
 // Variables, clauses, literals without and with their closing zeros, and the top of the text.
 #[derive(Clone, Copy)]
@@ -31,16 +32,16 @@ pub struct Scratch {
 
 // The exact lengths over an accepted table.
 #[tactic(auto, using(crate::proofs::Measuring::lengths_made, numbers::proofs::Counted::bases_few, numbers::proofs::Counted::switches_few))]
-pub fn measure(table: Checked, e: Encoding) -> Lengths
-    ensures { result ≡ lengths_for e (table_in table.entry) }
+pub fn measure(words: &[u32], counts: Counts, e: Encoding) -> Lengths
+    requires { Counted words.now counts }
+    ensures { result ≡ lengths_for e (table_of words.now) }
 {
-    let words = table.words;
     let part = e.hard;
     let side = e.side;
     let n = lists::word(words, 0);
     let p = lists::word(words, 1);
     let hard = totals::hard_tally(words, n, part);
-    let soft = totals::soft_tally(table, side);
+    let soft = totals::soft_tally(words, counts, side);
     let variables = numbers::switch_base(words, n, part) + numbers::switch_count(words, p, side);
     let clauses = hard.clauses + soft.clauses;
     let literals = hard.literals + soft.literals;
@@ -49,7 +50,7 @@ pub fn measure(table: Checked, e: Encoding) -> Lengths
         clauses,
         literals,
         entries: clauses + literals,
-        top: totals::top_of(table),
+        top: totals::top_of(words, counts),
     }
 }
 
@@ -59,7 +60,7 @@ pub fn exact_lengths(words: &[u32], hard: u32, side: u32) -> Result<Lengths, Ref
     ensures { result ≡ measured_of (picked_of hard side) (judged words.now) }
 {
     let (e, counts) = asked::ask(words, hard, side)?;
-    Ok(measure(Checked { words, counts }, e))
+    Ok(measure(words, counts, e))
 }
 
 // How long the list of one end of the pair at the cursor is, closing zeros included.
@@ -100,15 +101,16 @@ fn longest_lists(table: Checked) -> Scratch
 
 // What the two scratch buffers must hold over an accepted table: nothing on the sides that do not choose.
 #[tactic(auto, unfolding(clause::specs::Lengths::scratch_length))]
-pub fn scratch_over(table: Checked, side: Side) -> Scratch
-    ensures { result ≡ scratch_for side (table_in table.entry) }
+pub fn scratch_over(words: &[u32], counts: Counts, side: Side) -> Scratch
+    requires { Counted words.now counts }
+    ensures { result ≡ scratch_for side (table_of words.now) }
 {
     match side {
         Side::Direct | Side::Support | Side::First => Scratch {
             first: 0,
             second: 0,
         },
-        Side::Literals | Side::Score => longest_lists(table),
+        Side::Literals | Side::Score => longest_lists(Checked { words, counts }),
     }
 }
 
@@ -118,5 +120,5 @@ pub fn scratch_lengths(words: &[u32], hard: u32, side: u32) -> Result<Scratch, R
     ensures { result ≡ needed_of (picked_of hard side) (judged words.now) }
 {
     let (e, counts) = asked::ask(words, hard, side)?;
-    Ok(scratch_over(Checked { words, counts }, e.side))
+    Ok(scratch_over(words, counts, e.side))
 }

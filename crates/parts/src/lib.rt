@@ -5,7 +5,7 @@ ghost use Rattle.std.specs.Prelude.{◌≡◌, ◌+◌, ◌^◌, ◌≤◌, ◌<
 ghost use Rattle.lists.specs.Stores.{Wrote};
 ghost use Rattle.table.specs.Table.{In};
 ghost use Rattle.table.specs.Words.{box_count, table_of, Accepted};
-ghost use Rattle.table.specs.Checked.{table_in};
+ghost use Rattle.table.specs.Answers.{Counted};
 ghost use Rattle.clause.specs.Clause.{entries_of, entries};
 ghost use Rattle.clause.specs.Ends.{one, two};
 ghost use Rattle.clause.specs.Hard.{box_clauses};
@@ -14,7 +14,7 @@ ghost use Rattle.clause.specs.Lengths.{scratch_length};
 ghost use Rattle.parts.specs.Parts.{scratch_through};
 
 use clause::{Hard, Side};
-use table::Checked;
+use table::Counts;
 
 // The hard clauses of box `b`, for a caller that goes part by part.
 pub fn put_box(words: &[u32], n: u32, part: Hard, b: u32, out: &mut [i32], at: usize) -> usize
@@ -46,7 +46,8 @@ pub fn put_hard(words: &[u32], n: u32, part: Hard, out: &mut [i32], from: usize)
 // The soft part, pair by pair. Only the sides that choose use the scratch slices.
 #[tactic(auto, using(crate::proofs::Writing::head_inside, crate::proofs::Writing::boxes_few, table::proofs::Words::ahead_turn, numbers::proofs::Counted::bases_few))]
 pub fn put_soft(
-    table: Checked,
+    words: &[u32],
+    counts: Counts,
     part: Hard,
     side: Side,
     first: &mut [i32],
@@ -54,21 +55,21 @@ pub fn put_soft(
     out: &mut [i32],
     from: usize,
 ) -> usize
-    requires { (scratch_length side one (table_in table) ≤ length first.old)
-        × (scratch_length side two (table_in table) ≤ length second.old)
-        × (from + length (entries (soft_part part side (table_in table))) < 2 ^ 64) }
-    ensures { Wrote out.old from (entries (soft_part part side (table_in table.entry))) result out.new
+    requires { Counted words.now counts
+        × (scratch_length side one (table_of words.now) ≤ length first.old)
+        × (scratch_length side two (table_of words.now) ≤ length second.old)
+        × (from + length (entries (soft_part part side (table_of words.now))) < 2 ^ 64) }
+    ensures { Wrote out.old from (entries (soft_part part side (table_of words.now))) result out.new
         × (first.new
-        ≡ scratch_through side one (table_in table.entry) (table_in table.entry).pairs first.old)
+        ≡ scratch_through side one (table_of words.now) (table_of words.now).pairs first.old)
         × (second.new
-        ≡ scratch_through side two (table_in table.entry) (table_in table.entry).pairs second.old) }
+        ≡ scratch_through side two (table_of words.now) (table_of words.now).pairs second.old) }
 {
-    let words = table.words;
-    let p = table.counts.pairs;
+    let p = counts.pairs;
     let n = lists::word(words, 0);
     let mut switch = numbers::switch_base(words, n, part);
     let mut cursor = from;
-    let mut at = table.counts.boxes + 2;
+    let mut at = counts.boxes + 2;
     for _ in 0..p {
         switch += 1;
         cursor = soft::put_pair(words, side, switch, at, first, second, out, cursor);

@@ -6,13 +6,13 @@ ghost use Rattle.std.specs.Prelude.{◌≡◌, ◌+◌, ◌≤◌, ◌<◌, leng
 ghost use Rattle.lists.specs.Lists.{nth};
 ghost use Rattle.table.specs.Table.{boxes};
 ghost use Rattle.table.specs.Words.{box_count, pair_at, table_of, judged, Accepted, PairStands};
-ghost use Rattle.table.specs.Checked.{table_in};
+ghost use Rattle.table.specs.Answers.{Counted};
 ghost use Rattle.reader.specs.Reader.{head_at_lem};
 ghost use Rattle.plan.specs.Plan.{IsPlan, charge, cost, value_fault, plan_fault, costed_of};
 
 use reader::PairHead;
 use refusal::Refusal;
-use table::Checked;
+use table::{Checked, Counts};
 
 // The value that the plan gives to the box at index `i` lies in that box's domain.
 fn value(words: &[u32], plan: &[u32], i: usize) -> Result<(), Refusal>
@@ -68,14 +68,13 @@ fn charged(words: &[u32], at: usize, pair: PairHead, plan: &[u32]) -> u64
 }
 
 // The cost of a plan over an accepted table: the sum over the pairs, which begin after the sizes.
-pub fn total(table: Checked, plan: &[u32]) -> u64
-    requires { IsPlan (table_in table) plan.now }
-    ensures { result ≡ cost (table_in table.entry) plan.now }
+pub fn total(words: &[u32], counts: Counts, plan: &[u32]) -> u64
+    requires { Counted words.now counts × IsPlan (table_of words.now) plan.now }
+    ensures { result ≡ cost (table_of words.now) plan.now }
 {
-    let words = table.words;
-    let p = table.counts.pairs;
+    let p = counts.pairs;
     let mut sum = 0;
-    let mut at = table.counts.boxes + 2;
+    let mut at = counts.boxes + 2;
     for _ in 0..p {
         let pair = reader::pair_at(words, at);
         sum += charged(words, at, pair, plan);
@@ -92,7 +91,7 @@ fn counted(table: Checked, plan: &[u32]) -> Result<u64, Refusal>
     let words = table.words;
     let n = table.counts.boxes;
     judge(words, n, plan)?;
-    Ok(total(table, plan))
+    Ok(total(words, table.counts, plan))
 }
 
 // The cost of a plan: 1 to 7 for the table, then 10 and 11 for the plan.

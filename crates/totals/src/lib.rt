@@ -3,7 +3,7 @@
 
 ghost use Rattle.std.specs.Prelude.{◌≡◌, ◌≤◌};
 ghost use Rattle.table.specs.Words.{table_of, box_count, pair_next, Accepted, PairStands};
-ghost use Rattle.table.specs.Checked.{table_in};
+ghost use Rattle.table.specs.Answers.{Counted};
 ghost use Rattle.clause.specs.declared.Hard.TheVariants.{Standard};
 ghost use Rattle.clause.specs.Clause.{bare};
 ghost use Rattle.clause.specs.List.{hard_part, soft_part};
@@ -12,16 +12,16 @@ ghost use Rattle.hard.specs.Tallies.{tally_of};
 
 use clause::{Hard, Side};
 use hard::Tally;
-use table::Checked;
+use table::Counts;
 
 // 1 plus the sum of the weights of all pairs.
-pub fn top_of(table: Checked) -> u64
-    ensures { result ≡ top (table_in table.entry) }
+pub fn top_of(words: &[u32], counts: Counts) -> u64
+    requires { Counted words.now counts }
+    ensures { result ≡ top (table_of words.now) }
 {
-    let words = table.words;
     let mut sum = 1;
-    let mut at = table.counts.boxes + 2;
-    for _ in 0..table.counts.pairs {
+    let mut at = counts.boxes + 2;
+    for _ in 0..counts.pairs {
         let pair = reader::pair_at(words, at);
         sum += u64::from(pair.weight);
         at = pair.next;
@@ -54,16 +54,16 @@ pub fn next_pair(words: &[u32], at: usize) -> usize
 }
 
 // What the pairs' clauses come to, with either hard part alike.
-pub fn soft_tally(table: Checked, side: Side) -> Tally
-    ensures { (result ≡ tally_of (bare (soft_part Standard side (table_in table.entry))))
+pub fn soft_tally(words: &[u32], counts: Counts, side: Side) -> Tally
+    requires { Counted words.now counts }
+    ensures { (result ≡ tally_of (bare (soft_part Standard side (table_of words.now))))
         × (result.clauses ≤ 65536)
         × (result.literals ≤ 262144) }
 {
-    let words = table.words;
     let mut clauses = 0;
     let mut literals = 0;
-    let mut at = table.counts.boxes + 2;
-    for _ in 0..table.counts.pairs {
+    let mut at = counts.boxes + 2;
+    for _ in 0..counts.pairs {
         let part = pairs::pair_tally(words, side, at);
         clauses += part.clauses;
         literals += part.literals;

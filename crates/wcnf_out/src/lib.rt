@@ -34,7 +34,7 @@ fn write_text(
         result first.new second.new text.new }
 {
     let side = e.side;
-    let long = wcnf_text::put_text(table, e, needed, first, second, text);
+    let long = wcnf_text::put_text(table.words, table.counts, e, needed, first, second, text);
     whole::tidy(side, first);
     whole::tidy(side, second);
     Ok(long)
@@ -54,10 +54,11 @@ fn write_checked(
         first.old second.old text.old
         result first.new second.new text.new }
 {
-    let side = e.side;
-    let scratch = measure::scratch_over(table, side);
-    let needed = measure::measure(table, e);
-    let long = wcnf_text::text_length(table, e, needed);
+    let words = table.words;
+    let counts = table.counts;
+    let scratch = measure::scratch_over(words, counts, e.side);
+    let needed = measure::measure(words, counts, e);
+    let long = wcnf_text::text_length(words, counts, e, needed);
     room::for_text(scratch, long, first.len(), second.len(), text.len())?;
     write_text(table, e, needed, first, second, text)
 }

@@ -5,6 +5,7 @@
 ghost use Rattle.std.specs.Prelude.{◌≡◌, ◌+◌, ◌^◌, ◌≤◌, ◌<◌, length};
 ghost use Rattle.lists.specs.Stores.{Wrote};
 ghost use Rattle.table.specs.Words.{box_count, table_of, Accepted};
+ghost use Rattle.table.specs.Answers.{Counted};
 ghost use Rattle.table.specs.Checked.{table_in};
 ghost use Rattle.clause.specs.Ends.{one, two};
 ghost use Rattle.clause.specs.List.{hard_part, soft_part};
@@ -16,7 +17,7 @@ ghost use Rattle.wcnf_text.specs.Text.{text_of};
 
 use clause::{Encoding, Hard, Side};
 use measure::Lengths;
-use table::Checked;
+use table::{Checked, Counts};
 
 // The lines of the boxes.
 fn put_boxes(
@@ -83,23 +84,24 @@ fn put_pairs(
 // The whole text.
 #[tactic(auto, using(parts::proofs::Writing::head_inside))]
 pub fn put_text(
-    table: Checked,
+    words: &[u32],
+    counts: Counts,
     e: Encoding,
     needed: Lengths,
     first: &mut [i32],
     second: &mut [i32],
     text: &mut [u8],
 ) -> usize
-    requires { (needed ≡ lengths_for e (table_in table))
-        × (scratch_length e.side one (table_in table) ≤ length first.old)
-        × (scratch_length e.side two (table_in table) ≤ length second.old) }
-    ensures { Wrote text.old 0 (text_of e (table_in table.entry)) result text.new
+    requires { Counted words.now counts
+        × (needed ≡ lengths_for e (table_of words.now))
+        × (scratch_length e.side one (table_of words.now) ≤ length first.old)
+        × (scratch_length e.side two (table_of words.now) ≤ length second.old) }
+    ensures { Wrote text.old 0 (text_of e (table_of words.now)) result text.new
         × (first.new
-        ≡ scratch_through e.side one (table_in table.entry) (table_in table.entry).pairs first.old)
+        ≡ scratch_through e.side one (table_of words.now) (table_of words.now).pairs first.old)
         × (second.new
-        ≡ scratch_through e.side two (table_in table.entry) (table_in table.entry).pairs second.old) }
+        ≡ scratch_through e.side two (table_of words.now) (table_of words.now).pairs second.old) }
 {
-    let words = table.words;
     let part = e.hard;
     let side = e.side;
     let n = lists::word(words, 0);
@@ -108,16 +110,25 @@ pub fn put_text(
     let count = needed.clauses as u64;
     let boxes = wcnf_header::put_header(text, 0, variables, count, needed.top);
     let pairs = put_boxes(words, n, part, needed.top, &mut clauses, text, boxes);
-    put_pairs(table, part, side, first, second, &mut clauses, text, pairs)
+    put_pairs(
+        Checked { words, counts },
+        part,
+        side,
+        first,
+        second,
+        &mut clauses,
+        text,
+        pairs,
+    )
 }
 
 // How long the text is. Nothing that is lent is touched.
-pub fn text_length(table: Checked, e: Encoding, needed: Lengths) -> usize
-    requires { needed ≡ lengths_for e (table_in table) }
-    ensures { result ≡ length (text_of e (table_in table.entry)) }
+pub fn text_length(words: &[u32], counts: Counts, e: Encoding, needed: Lengths) -> usize
+    requires { Counted words.now counts × (needed ≡ lengths_for e (table_of words.now)) }
+    ensures { result ≡ length (text_of e (table_of words.now)) }
 {
     let mut first = [0i32; 1024];
     let mut second = [0i32; 1024];
     let mut none = [0u8; 1];
-    put_text(table, e, needed, &mut first, &mut second, &mut none)
+    put_text(words, counts, e, needed, &mut first, &mut second, &mut none)
 }

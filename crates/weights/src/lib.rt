@@ -4,14 +4,14 @@
 ghost use Rattle.std.specs.Prelude.{◌≡◌, ◌+◌, ◌^◌, ◌<◌, length, replicate};
 ghost use Rattle.lists.specs.Stores.{Wrote};
 ghost use Rattle.table.specs.Words.{box_count, pair_at, table_of, Accepted, PairStands};
-ghost use Rattle.table.specs.Checked.{table_in};
+ghost use Rattle.table.specs.Answers.{Counted};
 ghost use Rattle.clause.specs.declared.Hard.TheVariants.{Standard};
 ghost use Rattle.clause.specs.Clause.{weights};
 ghost use Rattle.clause.specs.List.{hard_part, soft_part};
 ghost use Rattle.weights.specs.Weights.{pair_count};
 
 use clause::{Hard, Side};
-use table::Checked;
+use table::Counts;
 
 // The weights of the hard part: 0 for each clause.
 #[tactic(auto, using(crate::proofs::Weighing::hards_none, table::proofs::Tables::accepted_box))]
@@ -39,14 +39,13 @@ fn weigh_pair(words: &[u32], side: Side, at: usize, out: &mut [u64], cursor: usi
 
 // The weights of the soft part, pair by pair; with either hard part alike.
 #[tactic(auto, using(table::proofs::Words::ahead_turn))]
-pub fn weigh_soft(table: Checked, side: Side, out: &mut [u64], from: usize) -> usize
-    requires { (from + length (weights (soft_part Standard side (table_in table))) < 2 ^ 64) }
-    ensures { Wrote out.old from (weights (soft_part Standard side (table_in table.entry))) result out.new }
+pub fn weigh_soft(words: &[u32], counts: Counts, side: Side, out: &mut [u64], from: usize) -> usize
+    requires { Counted words.now counts × (from + length (weights (soft_part Standard side (table_of words.now))) < 2 ^ 64) }
+    ensures { Wrote out.old from (weights (soft_part Standard side (table_of words.now))) result out.new }
 {
-    let words = table.words;
-    let p = table.counts.pairs;
+    let p = counts.pairs;
     let mut cursor = from;
-    let mut at = table.counts.boxes + 2;
+    let mut at = counts.boxes + 2;
     for _ in 0..p {
         cursor = weigh_pair(words, side, at, out, cursor);
         at = totals::next_pair(words, at);

@@ -20,34 +20,34 @@ use Rattle.parts.proofs.put_soft.Goals as goal
 
 pub loop-init : goal.loop-init
 loop-init c =
-    let ws = c.args.table.words.now in
+    let ws = c.args.words.now in
     let side = c.args.side in
-    let n = c.args.table.counts in
-    let b = counted_start ws n c.args.table.counted in (
+    let n = c.args.counts in
+    let b = counted_start ws n c.requires.0 in (
       omega arith,
       omega (arith, b.pairs, b.few_pairs),
       rw sub-zero b.ahead,
       omega arith,
-      writes_all side ws n c.args.table.counted,
-      rw (asked_all side one ws n c.args.table.counted) c.requires.0,
-      rw (asked_all side two ws n c.args.table.counted) c.requires.1,
-      leaves_all side one ws n c.args.table.counted _,
-      leaves_all side two ws n c.args.table.counted _,
+      writes_all side ws n c.requires.0,
+      rw (asked_all side one ws n c.requires.0) c.requires.1,
+      rw (asked_all side two ws n c.requires.0) c.requires.2,
+      leaves_all side one ws n c.requires.0 _,
+      leaves_all side two ws n c.requires.0 _,
     )
 
 pub put_pair-cursor-requires : goal.put_pair-cursor-requires
 put_pair-cursor-requires c =
-    let ws = c.args.table.words.now in
-    let p = c.args.table.counts.pairs in
+    let ws = c.args.words.now in
+    let p = c.args.counts.pairs in
     let t = table_of ws in
     let turn = ahead_turn ws p c.loop.counter c.loop.at c.loop-test.true c.loop.invariant.2 in
     let is = c.switch_base-switch.ensures in
-    let few = bases_few ws c.args.table.counted.table c.args.part in
+    let few = bases_few ws c.requires.0.table c.args.part in
     let next : c.loop.switch + 1 ≡ values t + thresholds t c.args.part + (c.loop.counter + 1) = omega (arith, is, c.loop.invariant.3) in
     let text = soft_text c.args.part c.args.side ws p c.loop.counter c.loop.at c.loop-test.true in
     let fits = owes_room (entries_of (pair_clauses c.args.part c.args.side t (c.loop.counter + 1) (pair_at ws c.loop.at))) _
-    (c.loop.invariant.4.owed c.args.part is) text c.requires.2 in (
-      c.args.table.counted.table,
+    (c.loop.invariant.4.owed c.args.part is) text c.requires.3 in (
+      c.requires.0.table,
       turn.0,
       omega (arith, few, is, c.loop.invariant.3, c.loop.invariant.0, c.loop.invariant.1),
       asked_now c.args.side one ws p c.loop.counter c.loop.at _ c.loop-test.true c.loop.invariant.5,
@@ -57,8 +57,8 @@ put_pair-cursor-requires c =
 
 pub loop-preserved : goal.loop-preserved
 loop-preserved c =
-    let ws = c.args.table.words.now in
-    let p = c.args.table.counts.pairs in
+    let ws = c.args.words.now in
+    let p = c.args.counts.pairs in
     let t = table_of ws in
     let taken = c.loop-test.true in
     let turn = ahead_turn ws p c.loop.counter c.loop.at taken c.loop.invariant.2 in
@@ -80,8 +80,8 @@ loop-preserved c =
 
 pub returns : goal.returns
 returns c =
-    let ws = c.args.table.words.now in
-    let p = c.args.table.counts.pairs in
+    let ws = c.args.words.now in
+    let p = c.args.counts.pairs in
     let t = table_of ws in
     let z : p - c.loop.counter ≡ 0 = omega (arith, c.loop-test.false) in
     let side = c.args.side in (

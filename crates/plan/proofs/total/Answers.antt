@@ -12,13 +12,13 @@ use Rattle.plan.proofs.total.Goals as goal
 
 pub overflow_add-at : goal.overflow_add-at
 overflow_add-at c =
-    let b = counted_start c.args.table.words.now c.args.table.counts c.args.table.counted in
+    let b = counted_start c.args.words.now c.args.counts c.requires.0 in
     omega (arith, b.boxes, b.few_boxes)
 
 pub loop-init : goal.loop-init
 loop-init c =
-    let ws = c.args.table.words.now in
-    let b = counted_start ws c.args.table.counts c.args.table.counted in (
+    let ws = c.args.words.now in
+    let b = counted_start ws c.args.counts c.requires.0 in (
       omega arith,
       omega (arith, b.pairs, b.few_pairs),
       rw sub-zero b.ahead,
@@ -29,23 +29,23 @@ loop-init c =
 pub pair_at-pair-requires : goal.pair_at-pair-requires
 pair_at-pair-requires c =
     let a = c.args in
-    (ahead_turn a.table.words.now c.args.table.counts.pairs c.loop.counter c.loop.at c.loop-test.true c.loop.invariant.2).0
+    (ahead_turn a.words.now c.args.counts.pairs c.loop.counter c.loop.at (omega (arith, c.loop-test.true)) c.loop.invariant.2).0
 
 pub charged-sum-requires : goal.charged-sum-requires
 charged-sum-requires c = (
-  c.args.table.counted.table,
-  c.requires,
-  (ahead_turn c.args.table.words.now c.args.table.counts.pairs c.loop.counter c.loop.at c.loop-test.true c.loop.invariant.2).0,
+  c.requires.0.table,
+  c.requires.1,
+  (ahead_turn c.args.words.now c.args.counts.pairs c.loop.counter c.loop.at (omega (arith, c.loop-test.true)) c.loop.invariant.2).0,
   c.pair_at-pair.ensures,
 )
 
 pub overflow_add-sum : goal.overflow_add-sum
 overflow_add-sum c =
-    let S = (ahead_turn c.args.table.words.now c.args.table.counts.pairs c.loop.counter c.loop.at c.loop-test.true c.loop.invariant.2).0 in
+    let S = (ahead_turn c.args.words.now c.args.counts.pairs c.loop.counter c.loop.at (omega (arith, c.loop-test.true)) c.loop.invariant.2).0 in
     omega (
       arith,
       c.charged-sum.ensures,
-      charge_light c.args.table.words.now c.args.plan.now
+      charge_light c.args.words.now c.args.plan.now
           c.loop.at S,
       c.loop.invariant.1,
       c.loop.invariant.4,
@@ -54,12 +54,12 @@ overflow_add-sum c =
 
 pub loop-preserved : goal.loop-preserved
 loop-preserved c =
-    let ws = c.args.table.words.now in
+    let ws = c.args.words.now in
     let plan = c.args.plan.now in
-    let turn = ahead_turn ws c.args.table.counts.pairs c.loop.counter c.loop.at c.loop-test.true c.loop.invariant.2 in
+    let turn = ahead_turn ws c.args.counts.pairs c.loop.counter c.loop.at (omega (arith, c.loop-test.true)) c.loop.invariant.2 in
     let next : c.pair_at-pair.result.next ≡ pair_next ws c.loop.at = ap (λ (h : PairHead). h.next) c.pair_at-pair.ensures in
     let light = charge_light ws plan c.loop.at turn.0 in
-    let owed = sum_turn ws (charge plan) c.args.table.counts.pairs c.loop.counter c.loop.at c.loop-test.true in (
+    let owed = sum_turn ws (charge plan) c.args.counts.pairs c.loop.counter c.loop.at (omega (arith, c.loop-test.true)) in (
       omega (arith, c.loop-test.true),
       c.loop.invariant.1,
       rw next turn.1,
@@ -69,5 +69,5 @@ loop-preserved c =
 
 pub returns : goal.returns
 returns c =
-    let ws = c.args.table.words.now in
-    omega (arith, c.loop.invariant.3, sum_last ws (charge c.args.plan.now) c.args.table.counts.pairs c.loop.counter c.loop.at (omega arith))
+    let ws = c.args.words.now in
+    omega (arith, c.loop.invariant.3, sum_last ws (charge c.args.plan.now) c.args.counts.pairs c.loop.counter c.loop.at (omega arith))

@@ -10,7 +10,7 @@ use Rattle.totals.proofs.soft_tally.Given as goal
 
 abbrev pub invariant-loop : goal.invariant-loop
 invariant-loop l =
-    Ahead l.words (l.fn.table.counts.pairs - l.counter) l.at
-    × Makes (record { clauses = l.clauses; literals = l.literals }) (bare (soft_ahead Standard l.side l.words l.fn.table.counts.pairs l.counter l.at)) (bare (soft_part Standard l.side (table_of l.words)))
+    Ahead l.words (l.fn.counts.pairs - l.counter) l.at
+    × Makes (record { clauses = l.clauses; literals = l.literals }) (bare (soft_ahead Standard l.side l.words l.fn.counts.pairs l.counter l.at)) (bare (soft_part Standard l.side (table_of l.words)))
     × (l.clauses ≤ 256 * l.counter)
     × (l.literals ≤ 1024 * l.counter)

@@ -9,6 +9,6 @@ use Rattle.totals.proofs.top_of.Given as goal
 
 abbrev pub invariant-loop : goal.invariant-loop
 invariant-loop l =
-    Ahead l.words (l.fn.table.counts.pairs - l.counter) l.at
-    × (l.sum + sum_ahead l.words weight_of (l.fn.table.counts.pairs - l.counter) l.at ≡ top (table_of l.words))
+    Ahead l.words (l.fn.counts.pairs - l.counter) l.at
+    × (l.sum + sum_ahead l.words weight_of (l.fn.counts.pairs - l.counter) l.at ≡ top (table_of l.words))
     × (l.sum ≤ 1 + 1000000 * l.counter)

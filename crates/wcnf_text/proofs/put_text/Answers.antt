@@ -13,7 +13,7 @@ room = length-replicate {A = ℤ} 1024 (pos 0)
 
 pub put_boxes-pairs-requires : goal.put_boxes-pairs-requires
 put_boxes-pairs-requires c = (
-  c.args.table.counted.table,
+  c.requires.0.table,
   c.word-n.ensures,
   omega (arith, room),
   omega (arith, c.put_header-boxes.ensures.1),
@@ -21,8 +21,8 @@ put_boxes-pairs-requires c = (
 
 pub put_pairs-requires : goal.put_pairs-requires
 put_pairs-requires c = (
-  c.requires.1,
   c.requires.2,
+  c.requires.3,
   omega (arith, room, c.put_boxes-pairs.ensures.1),
   omega (arith, c.put_header-boxes.ensures.1, c.put_boxes-pairs.ensures.2),
 )
@@ -30,7 +30,7 @@ put_pairs-requires c = (
 pub returns : goal.returns
 returns c =
     let put = c.put_pairs.ensures in (
-      text_put c.args.e (table_of c.args.table.words.now) c.requires.0 c.put_header-boxes.ensures.0 c.put_boxes-pairs.ensures.0 put.0,
+      text_put c.args.e (table_of c.args.words.now) c.requires.1 c.put_header-boxes.ensures.0 c.put_boxes-pairs.ensures.0 put.0,
       put.1,
       put.2,
     )

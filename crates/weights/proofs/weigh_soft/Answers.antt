@@ -18,33 +18,33 @@ use Rattle.weights.proofs.weigh_soft.Goals as goal
 
 pub overflow_add-at : goal.overflow_add-at
 overflow_add-at c =
-    let b = counted_start c.args.table.words.now c.args.table.counts c.args.table.counted in
+    let b = counted_start c.args.words.now c.args.counts c.requires.0 in
     omega (arith, b.boxes, b.few_boxes)
 
 pub loop-init : goal.loop-init
 loop-init c =
-    let ws = c.args.table.words.now in
-    let b = counted_start ws c.args.table.counts c.args.table.counted in (
+    let ws = c.args.words.now in
+    let b = counted_start ws c.args.counts c.requires.0 in (
       omega arith,
       omega (arith, b.pairs, b.few_pairs),
       rw sub-zero b.ahead,
-      rw (soft_start Standard c.args.side ws c.args.table.counts c.args.table.counted) owes_all,
+      rw (soft_start Standard c.args.side ws c.args.counts c.requires.0) owes_all,
     )
 
 pub weigh_pair-cursor-requires : goal.weigh_pair-cursor-requires
 weigh_pair-cursor-requires c =
-    let ws = c.args.table.words.now in
-    let p = c.args.table.counts.pairs in
+    let ws = c.args.words.now in
+    let p = c.args.counts.pairs in
     let turn = ahead_turn ws p c.loop.counter c.loop.at c.loop-test.true c.loop.invariant.2 in
     let text = weights_turn c.args.side ws p c.loop.counter c.loop.at c.loop-test.true in
     let part = replicate (pair_count c.args.side ws c.loop.at) (pair_at ws c.loop.at).weight in
-    let fits = owes_room part _ c.loop.invariant.3 text c.requires in
-    (c.args.table.counted.table, turn.0, omega (arith, fits, length-replicate (pair_count c.args.side ws c.loop.at) (pair_at ws c.loop.at).weight))
+    let fits = owes_room part _ c.loop.invariant.3 text c.requires.1 in
+    (c.requires.0.table, turn.0, omega (arith, fits, length-replicate (pair_count c.args.side ws c.loop.at) (pair_at ws c.loop.at).weight))
 
 pub loop-preserved : goal.loop-preserved
 loop-preserved c =
-    let ws = c.args.table.words.now in
-    let p = c.args.table.counts.pairs in
+    let ws = c.args.words.now in
+    let p = c.args.counts.pairs in
     let turn = ahead_turn ws p c.loop.counter c.loop.at c.loop-test.true c.loop.invariant.2 in
     let text = weights_turn c.args.side ws p c.loop.counter c.loop.at c.loop-test.true in (
       omega (arith, c.loop-test.true),
@@ -56,7 +56,7 @@ loop-preserved c =
 pub returns : goal.returns
 unfolding weights
 returns c =
-    let ws = c.args.table.words.now in
-    let p = c.args.table.counts.pairs in
+    let ws = c.args.words.now in
+    let p = c.args.counts.pairs in
     let z : p - c.loop.counter ≡ 0 = omega (arith, c.loop-test.false) in
     owes_none c.loop.invariant.3 (ap weights (soft_end Standard c.args.side ws p c.loop.counter c.loop.at z))

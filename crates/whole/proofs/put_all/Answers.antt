@@ -6,7 +6,7 @@ use Rattle.whole.proofs.put_all.Goals as goal
 pub returns : goal.returns
 returns c =
     let soft = c.put_soft.ensures in (
-      whole_put c.args.part c.args.side (table_of c.args.table.words.now)
+      whole_put c.args.part c.args.side (table_of c.args.words.now)
           c.put_hard-middle.ensures soft.0,
       soft.1,
       soft.2,

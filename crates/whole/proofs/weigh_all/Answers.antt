@@ -5,5 +5,5 @@ use Rattle.whole.proofs.weigh_all.Goals as goal
 
 pub returns : goal.returns
 returns c =
-    whole_weighed c.args.part c.args.side (table_of c.args.table.words.now)
+    whole_weighed c.args.part c.args.side (table_of c.args.words.now)
     c.weigh_hard-middle.ensures c.weigh_soft.ensures
