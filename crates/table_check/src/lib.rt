@@ -21,6 +21,7 @@ ghost use Rattle.table.specs.Words.{
 ghost use Rattle.table.specs.Answers.{checked_of};
 ghost use Rattle.refusal.specs.Refusals.{result_of};
 ghost use Rattle.table_check.specs.Reading.{body_of};
+ghost use Rattle.table_check.specs.Highest.{AtMost};
 
 use refusal::Refusal;
 use table::Counts;
@@ -72,16 +73,37 @@ fn sizes(words: &[u32], n: usize) -> Result<usize, Refusal>
     Ok(n + 2)
 }
 
-// The `count` masks that begin at word `from`, each of at most `m` values: where they end.
-#[tactic(auto, using(crate::proofs::Reading::turns))]
+// The largest of the words from `from` up to `to`, and 0 if there are none.
+#[tactic(auto, using(crate::proofs::Highest::most_none, crate::proofs::Highest::most_turn, crate::proofs::Highest::most_all))]
+fn largest(words: &[u32], from: usize, to: usize) -> u32
+    requires { (from ≤ to) × (to ≤ length words.now) }
+    ensures { AtMost words.now from to result }
+{
+    let mut most = 0;
+    for at in from..to {
+        most = words[at].max(most);
+    }
+    most
+}
+
+// The `count` masks that begin at word `from`, each of at most `m` values: where they end. The largest says at once that all of them are; which one
+// is not, or is not there, is looked for one by one. Most of a table is masks.
+#[tactic(auto, using(crate::proofs::Reading::turns, crate::proofs::Highest::masks_narrow))]
 fn masks(words: &[u32], m: u32, count: usize, from: usize) -> Result<usize, Refusal>
     requires { (m < 32) × (from + count < 2 ^ 64) }
     ensures { result ≡ result_of (masks_fault words.now m count from) (from + count) }
 {
-    for at in from..from + count {
+    let end = from + count;
+    if end <= words.len() {
+        let past = largest(words, from, end) >> m;
+        if past == 0 {
+            return Ok(end);
+        }
+    }
+    for at in from..end {
         narrow(words, m, at)?;
     }
-    Ok(from + count)
+    Ok(end)
 }
 
 // The two boxes of the pair at word `at`: where its weight stands.
