@@ -25,11 +25,13 @@ pub fn read_full<R: Read>(input: &mut R, buf: &mut [u8]) -> usize
     done
 }
 
-// Reads a whole input and returns how many bytes it has. One that fills the buffer is refused, with 9 and place 0: it may be longer.
+// Reads a whole input and returns how many bytes it has. One that fills the buffer is refused, with 9 and place 0: it may be longer. No other
+// is: what was read is then the whole buffer.
 pub fn read_input<R: Read>(input: &mut R, buf: &mut [u8]) -> Result<usize, Refusal>
     ensures bound { IfOk result (λ n. n < length buf.new) }
     ensures bytes { IfOk result (λ n. Consumes (R.remaining input.old) (R.remaining input.new) (take n buf.new)) }
     ensures refused { IfErr result (λ f. f ≡ Room 0) }
+    ensures full { IfErr result (λ f. Consumes (R.remaining input.old) (R.remaining input.new) (take (length buf.new) buf.new)) }
 {
     let n = read_full(input, buf);
     if n < buf.len() {
