@@ -19,6 +19,10 @@ NONE = 'half_of of half has no theorem that it is decided, and no reason'
 SLIPS = [  # a file, what stands there, what stands there instead, and what is found
     (LIBRARY, 'fn own', 'pub fn own',
      [f'{PROMISES} does not name function own of half', 'own of half has no theorem that it is decided, and no reason']),
+    (LIBRARY, 'fn own', 'impl From<u32> for Half {\n    fn from(x: u32) -> Half {\n    }\n}\n\nfn own',
+     [f'{PROMISES} does not name function HalfFromU32.from of half', 'HalfFromU32.from of half has no theorem that it is decided, and no reason']),
+    (LIBRARY, 'fn own', 'pub trait Halved: Copy {\n    fn halved(self) -> u32;\n}\n\nfn own',
+     [f'{PROMISES} does not name function Halved.halved of half', 'Halved.halved of half has no theorem that it is decided, and no reason']),
     (LIBRARY, 'pub fn print', 'fn print', [f'{PROMISES} names function print of half, which is not there']),
     (OF_C, 'pub extern "C" fn', 'fn', [f'{PROMISES} names function half_of of half_c, which is not there']),
     (THEOREMS, 'pub half_half_of_decided', 'half_half_of_decided', [NONE]),

@@ -42,6 +42,12 @@ module _ (T : RattleType) (L : Laws T) (C : IsCopy T) (G : Ghosts T.Denot) (d : 
 pub clause_pick_decided : Decided clause.specs.contracts.pick.ended clause.proofs.pick.Reads.Post
 clause_pick_decided = decided λ _ _ _ _ p q. search same
 
+pub clause_HardTryFromU32_try_from_decided : Decided clause.specs.contracts.HardTryFromU32.try_from.ended clause.proofs.HardTryFromU32.try_from.Reads.Post
+clause_HardTryFromU32_try_from_decided = decided λ _ _ _ _ p q. search same
+
+pub clause_SideTryFromU32_try_from_decided : Decided clause.specs.contracts.SideTryFromU32.try_from.ended clause.proofs.SideTryFromU32.try_from.Reads.Post
+clause_SideTryFromU32_try_from_decided = decided λ _ _ _ _ p q. search same
+
 pub asked_ask_decided : Decided asked.specs.contracts.ask.ended asked.proofs.ask.Reads.Post
 asked_ask_decided = decided λ _ _ _ _ p q. search same
 
